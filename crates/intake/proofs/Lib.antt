@@ -1,0 +1,4 @@
+pub mod LineLaws
+pub mod RecordCases
+pub mod RecordLaws
+pub mod StreamLaws

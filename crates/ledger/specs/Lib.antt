@@ -1,0 +1,5 @@
+pub mod Keys
+pub mod Ledger
+pub mod Lex
+pub mod Rows
+pub mod Sums

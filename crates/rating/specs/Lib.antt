@@ -1,0 +1,4 @@
+pub mod Boundary
+pub mod Charge
+pub mod Faults
+pub mod Rating

@@ -1,0 +1,4 @@
+pub mod Board
+pub mod Faults
+pub mod Postings
+pub mod Statement

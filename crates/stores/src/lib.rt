@@ -1,0 +1,3 @@
+// Stores of rows.
+mod search;
+pub mod table;

@@ -1,0 +1,4 @@
+pub mod Backs
+pub mod LabelLaws
+pub mod InRange
+pub mod TextLaws
