@@ -16,7 +16,7 @@ use Rattle.std.specs.declared.option.Option.{Option}
 use Rattle.std.specs.declared.option.Option.the-variants.{None, Some}
 use Rattle.std.proofs.shelf.Tests.{cases-bool, cond-true, cond-false, false≢true, or-left, or-cases, ltb-true, both-ways}
 use Rattle.ledger.specs.Keys.{KeyOps, OrderLaws, JoinLaws, byOrder}
-use Rattle.ledger.specs.Ledger.{Ledger, AllAbove, Rising, findRow, isNext, nextRow, putRow, holds, position, joinTo, earlier, takes, withRows, putIn}
+use Rattle.ledger.specs.Ledger.{Ledger, AllAbove, Rising, findRow, isNext, nextRow, putRow, holds, position, joinTo, earlier, takes, withRows, putIn, Kept}
 
 pub by-order : {G : Type 0} (v : Ordering) → (v ≡ Less → G) → (v ≡ Equal → G) → (v ≡ Greater → G) → G
 by-order Less l e g = l refl
@@ -141,8 +141,8 @@ module _ {K R : Type 0} (o : KeyOps K R) (laws : OrderLaws o) where
       (λ l. rw l (nth-found k rs (h .1) (rw l at e)))
       (λ q. rw q)
       (λ q.
-        let none = find-above k rs (above-all k (o .keyOf s) rs (greater-less (o .keyOf s) k q) (h .0)) in
-        absurd (false≢true (sym (ap isSome none) ∙ (rw q at e))))
+      let none = find-above k rs (above-all k (o .keyOf s) rs (greater-less (o .keyOf s) k q) (h .0)) in
+      absurd (false≢true (sym (ap isSome none) ∙ (rw q at e))))
 
   pub next-first : (after : Option K) (rows : List R) → ((k : K) → after ≡ Some k → ⊥) → nextRow o after rows ≡ nth rows 0
   next-first None [] h = refl
@@ -201,8 +201,8 @@ module _ {K R : Type 0} (o : KeyOps K R) (laws : OrderLaws o) where
         (λ l. rw l (put-above (o .keyOf s) r rs l (h .0), put-rising r rs (h .1)))
         (λ q. rw q (rw (key-joined s r q) (h .0), h .1))
         (λ q.
-          let b = greater-less (o .keyOf s) (o .keyOf r) q in
-          rw q ((b, above-all (o .keyOf r) (o .keyOf s) rs b (h .0)), h))
+        let b = greater-less (o .keyOf s) (o .keyOf r) q in
+        rw q ((b, above-all (o .keyOf r) (o .keyOf s) rs b (h .0)), h))
 
     pub length-put : (r : R) (rows : List R) → Rising o rows → length (putRow o join r rows) ≡ cond (holds o (o .keyOf r) rows) (length rows) (suc (length rows))
     length-put r [] h = refl
@@ -222,61 +222,61 @@ module _ {K R : Type 0} (o : KeyOps K R) (laws : OrderLaws o) where
     find-put k r (s ∷ rs) h =
         by-order (o .order (o .keyOf s) (o .keyOf r))
         (λ l. rw l (
-          by-order (o .order (o .keyOf s) k)
-          (λ m. rw m (find-put k r rs (h .1)))
-          (λ m.
-            let rk : o .order (o .keyOf r) k ≡ Greater = subst (λ x. o .order (o .keyOf r) x ≡ Greater) (laws .identical (o .keyOf s) k m) (less-greater (o .keyOf s) (o .keyOf r) l) in
-            rw (m, rk))
-          (λ m. rw m (find-put k r rs (h .1)))))
+        by-order (o .order (o .keyOf s) k)
+        (λ m. rw m (find-put k r rs (h .1)))
+        (λ m.
+        let rk : o .order (o .keyOf r) k ≡ Greater = subst (λ x. o .order (o .keyOf r) x ≡ Greater) (laws .identical (o .keyOf s) k m) (less-greater (o .keyOf s) (o .keyOf r) l) in
+        rw (m, rk))
+        (λ m. rw m (find-put k r rs (h .1)))))
         (λ q.
-          let same = laws .identical (o .keyOf s) (o .keyOf r) q in
-          rw (q, key-joined s r q) (
-            by-order (o .order (o .keyOf r) k)
-            (λ m. rw (same, m))
-            (λ m. rw (same, m))
-            (λ m. rw (same, m))))
+        let same = laws .identical (o .keyOf s) (o .keyOf r) q in
+        rw (q, key-joined s r q) (
+        by-order (o .order (o .keyOf r) k)
+        (λ m. rw (same, m))
+        (λ m. rw (same, m))
+        (λ m. rw (same, m))))
         (λ q.
-          rw q (
-            by-order (o .order (o .keyOf r) k)
-            (λ m. rw m)
-            (λ m.
-              let rs-above = above-all (o .keyOf r) (o .keyOf s) rs (greater-less (o .keyOf s) (o .keyOf r) q) (h .0) in
-              let rk = laws .identical (o .keyOf r) k m in
-              let sk : o .order (o .keyOf s) k ≡ Greater = subst (λ x. o .order (o .keyOf s) x ≡ Greater) rk q in
-              rw (m, sk, find-above k rs (subst (λ x. AllAbove o x rs) rk rs-above)))
-            (λ m. rw m)))
+        rw q (
+        by-order (o .order (o .keyOf r) k)
+        (λ m. rw m)
+        (λ m.
+        let rs-above = above-all (o .keyOf r) (o .keyOf s) rs (greater-less (o .keyOf s) (o .keyOf r) q) (h .0) in
+        let rk = laws .identical (o .keyOf r) k m in
+        let sk : o .order (o .keyOf s) k ≡ Greater = subst (λ x. o .order (o .keyOf s) x ≡ Greater) rk q in
+        rw (m, sk, find-above k rs (subst (λ x. AllAbove o x rs) rk rs-above)))
+        (λ m. rw m)))
 
     -- two puts of one key are one put of the joined row
     pub put-put : (a b : R) (rows : List R) → o .keyOf a ≡ o .keyOf b → putRow o join b (putRow o join a rows) ≡ putRow o join (join a b) rows
     put-put a b [] e = rw (e, laws .same (o .keyOf b))
     put-put a b (s ∷ rs) e =
         rw (joins .keeps a b e) (
-          by-order (o .order (o .keyOf s) (o .keyOf a))
-          (λ l.
-            let m : o .order (o .keyOf s) (o .keyOf b) ≡ Less = subst (λ x. o .order (o .keyOf s) x ≡ Less) e l in
-            rw (l, m) (ap (λ x. s ∷ x) (put-put a b rs e)))
-          (λ q.
-            let m : o .order (o .keyOf s) (o .keyOf b) ≡ Equal = subst (λ x. o .order (o .keyOf s) x ≡ Equal) e q in
-            rw (q, key-joined s a q, m) (ap (λ x. x ∷ rs) (joins .associates s a b (laws .identical (o .keyOf s) (o .keyOf a) q) e)))
-          (λ q.
-            let m : o .order (o .keyOf a) (o .keyOf b) ≡ Equal = subst (λ x. o .order (o .keyOf a) x ≡ Equal) e (laws .same (o .keyOf a)) in
-            rw (q, m)))
+        by-order (o .order (o .keyOf s) (o .keyOf a))
+        (λ l.
+        let m : o .order (o .keyOf s) (o .keyOf b) ≡ Less = subst (λ x. o .order (o .keyOf s) x ≡ Less) e l in
+        rw (l, m) (ap (λ x. s ∷ x) (put-put a b rs e)))
+        (λ q.
+        let m : o .order (o .keyOf s) (o .keyOf b) ≡ Equal = subst (λ x. o .order (o .keyOf s) x ≡ Equal) e q in
+        rw (q, key-joined s a q, m) (ap (λ x. x ∷ rs) (joins .associates s a b (laws .identical (o .keyOf s) (o .keyOf a) q) e)))
+        (λ q.
+        let m : o .order (o .keyOf a) (o .keyOf b) ≡ Equal = subst (λ x. o .order (o .keyOf a) x ≡ Equal) e (laws .same (o .keyOf a)) in
+        rw (q, m)))
 
     put-swap-less : (a b : R) (rows : List R) → o .order (o .keyOf a) (o .keyOf b) ≡ Less → putRow o join a (putRow o join b rows) ≡ putRow o join b (putRow o join a rows)
     put-swap-less a b [] e = rw (e, less-greater (o .keyOf a) (o .keyOf b) e)
     put-swap-less a b (s ∷ rs) e =
         by-order (o .order (o .keyOf s) (o .keyOf b))
         (λ l.
-          by-order (o .order (o .keyOf s) (o .keyOf a))
-          (λ m. simp (l, m) (ap (λ x. s ∷ x) (put-swap-less a b rs e)))
-          (λ m. simp (l, m, key-joined s a m))
-          (λ m. simp (l, m, e)))
+        by-order (o .order (o .keyOf s) (o .keyOf a))
+        (λ m. simp (l, m) (ap (λ x. s ∷ x) (put-swap-less a b rs e)))
+        (λ m. simp (l, m, key-joined s a m))
+        (λ m. simp (l, m, e)))
         (λ q.
-          let m : o .order (o .keyOf s) (o .keyOf a) ≡ Greater = subst (λ x. o .order x (o .keyOf a) ≡ Greater) (sym (laws .identical (o .keyOf s) (o .keyOf b) q)) (less-greater (o .keyOf a) (o .keyOf b) e) in
-          simp (q, key-joined s b q, m, e))
+        let m : o .order (o .keyOf s) (o .keyOf a) ≡ Greater = subst (λ x. o .order x (o .keyOf a) ≡ Greater) (sym (laws .identical (o .keyOf s) (o .keyOf b) q)) (less-greater (o .keyOf a) (o .keyOf b) e) in
+        simp (q, key-joined s b q, m, e))
         (λ q.
-          let m = less-greater (o .keyOf a) (o .keyOf s) (laws .transitive (o .keyOf a) (o .keyOf b) (o .keyOf s) e (greater-less (o .keyOf s) (o .keyOf b) q)) in
-          simp (q, m, less-greater (o .keyOf a) (o .keyOf b) e, e))
+        let m = less-greater (o .keyOf a) (o .keyOf s) (laws .transitive (o .keyOf a) (o .keyOf b) (o .keyOf s) e (greater-less (o .keyOf s) (o .keyOf b) q)) in
+        simp (q, m, less-greater (o .keyOf a) (o .keyOf b) e, e))
 
     -- the order of puts does not matter
     pub put-swap : (a b : R) (rows : List R) → putRow o join a (putRow o join b rows) ≡ putRow o join b (putRow o join a rows)
@@ -284,8 +284,8 @@ module _ {K R : Type 0} (o : KeyOps K R) (laws : OrderLaws o) where
         by-order (o .order (o .keyOf a) (o .keyOf b))
         (λ l. put-swap-less a b rows l)
         (λ q.
-          let same = laws .identical (o .keyOf a) (o .keyOf b) q in
-          put-put b a rows (sym same) ∙ ap (λ x. putRow o join x rows) (joins .commutes b a (sym same)) ∙ sym (put-put a b rows same))
+        let same = laws .identical (o .keyOf a) (o .keyOf b) q in
+        put-put b a rows (sym same) ∙ ap (λ x. putRow o join x rows) (joins .commutes b a (sym same)) ∙ sym (put-put a b rows same))
         (λ g. sym (put-swap-less b a rows (greater-less (o .keyOf a) (o .keyOf b) g)))
 
     next-up : (after : Option K) (j k : K) → isNext o after j ≡ true → o .order j k ≡ Less → isNext o after k ≡ true
@@ -309,33 +309,33 @@ module _ {K R : Type 0} (o : KeyOps K R) (laws : OrderLaws o) where
     next-put after h (s ∷ rs) =
         by-order (o .order (o .keyOf s) (o .keyOf h))
         (λ l.
-          ap (λ v. nextRow o after (byOrder v (s ∷ putRow o join h rs) (join s h ∷ rs) (h ∷ (s ∷ rs)))) l ∙
-          ⊎-elim
-          (λ t.
-            next-yes after s (putRow o join h rs) t
-            ∙ sym (with-h (next-up after (o .keyOf s) (o .keyOf h) t l) ∙ ap (earlier o join h) (next-yes after s rs t) ∙ ap (λ v. byOrder v (Some s) (Some (join s h)) (Some h)) l))
-          (λ f. next-no after s (putRow o join h rs) f ∙ next-put after h rs ∙ sym (ap answer (next-no after s rs f)))
-          (cases-bool (isNext o after (o .keyOf s))))
+        ap (λ v. nextRow o after (byOrder v (s ∷ putRow o join h rs) (join s h ∷ rs) (h ∷ (s ∷ rs)))) l ∙
+        ⊎-elim
+        (λ t.
+        next-yes after s (putRow o join h rs) t
+        ∙ sym (with-h (next-up after (o .keyOf s) (o .keyOf h) t l) ∙ ap (earlier o join h) (next-yes after s rs t) ∙ ap (λ v. byOrder v (Some s) (Some (join s h)) (Some h)) l))
+        (λ f. next-no after s (putRow o join h rs) f ∙ next-put after h rs ∙ sym (ap answer (next-no after s rs f)))
+        (cases-bool (isNext o after (o .keyOf s))))
         (λ q.
-          let same = laws .identical (o .keyOf s) (o .keyOf h) q in
-          let key = key-joined s h q ∙ same in
-          ap (λ v. nextRow o after (byOrder v (s ∷ putRow o join h rs) (join s h ∷ rs) (h ∷ (s ∷ rs)))) q ∙
-          ⊎-elim
-          (λ t.
-            next-yes after (join s h) rs (ap (isNext o after) key ∙ t)
-            ∙ sym (with-h t ∙ ap (earlier o join h) (next-yes after s rs (ap (isNext o after) same ∙ t)) ∙ ap (λ v. byOrder v (Some s) (Some (join s h)) (Some h)) q))
-          (λ f.
-            next-no after (join s h) rs (ap (isNext o after) key ∙ f)
-            ∙ sym (without-h f ∙ next-no after s rs (ap (isNext o after) same ∙ f)))
-          (cases-bool (isNext o after (o .keyOf h))))
+        let same = laws .identical (o .keyOf s) (o .keyOf h) q in
+        let key = key-joined s h q ∙ same in
+        ap (λ v. nextRow o after (byOrder v (s ∷ putRow o join h rs) (join s h ∷ rs) (h ∷ (s ∷ rs)))) q ∙
+        ⊎-elim
+        (λ t.
+        next-yes after (join s h) rs (ap (isNext o after) key ∙ t)
+        ∙ sym (with-h t ∙ ap (earlier o join h) (next-yes after s rs (ap (isNext o after) same ∙ t)) ∙ ap (λ v. byOrder v (Some s) (Some (join s h)) (Some h)) q))
+        (λ f.
+        next-no after (join s h) rs (ap (isNext o after) key ∙ f)
+        ∙ sym (without-h f ∙ next-no after s rs (ap (isNext o after) same ∙ f)))
+        (cases-bool (isNext o after (o .keyOf h))))
         (λ g.
-          ap (λ v. nextRow o after (byOrder v (s ∷ putRow o join h rs) (join s h ∷ rs) (h ∷ (s ∷ rs)))) g ∙
-          ⊎-elim
-          (λ t.
-            next-yes after h (s ∷ rs) t
-            ∙ sym (with-h t ∙ ap (earlier o join h) (next-yes after s rs (next-up after (o .keyOf h) (o .keyOf s) t (greater-less (o .keyOf s) (o .keyOf h) g))) ∙ ap (λ v. byOrder v (Some s) (Some (join s h)) (Some h)) g))
-          (λ f. next-no after h (s ∷ rs) f ∙ sym (without-h f))
-          (cases-bool (isNext o after (o .keyOf h))))
+        ap (λ v. nextRow o after (byOrder v (s ∷ putRow o join h rs) (join s h ∷ rs) (h ∷ (s ∷ rs)))) g ∙
+        ⊎-elim
+        (λ t.
+        next-yes after h (s ∷ rs) t
+        ∙ sym (with-h t ∙ ap (earlier o join h) (next-yes after s rs (next-up after (o .keyOf h) (o .keyOf s) t (greater-less (o .keyOf s) (o .keyOf h) g))) ∙ ap (λ v. byOrder v (Some s) (Some (join s h)) (Some h)) g))
+        (λ f. next-no after h (s ∷ rs) f ∙ sym (without-h f))
+        (cases-bool (isNext o after (o .keyOf h))))
       where
         answer : Option R → Option R
         answer x = cond (isNext o after (o .keyOf h)) (earlier o join h x) x
@@ -346,6 +346,13 @@ module _ {K R : Type 0} (o : KeyOps K R) (laws : OrderLaws o) where
         without-h : isNext o after (o .keyOf h) ≡ false → cond (isNext o after (o .keyOf h)) (earlier o join h (nextRow o after (s ∷ rs))) (nextRow o after (s ∷ rs)) ≡ nextRow o after (s ∷ rs)
         without-h f = cond-false (isNext o after (o .keyOf h)) (earlier o join h (nextRow o after (s ∷ rs))) (nextRow o after (s ∷ rs)) f
 
+-- a put that is taken, and one that is refused
+pub put-taken : {K R : Type 0} (o : KeyOps K R) (join : R → R → R) (r : R) (l : Ledger R) → takes o r l ≡ true → putIn o join r l ≡ withRows l (putRow o join r (l .rows))
+put-taken o join r l t = cond-true (takes o r l) (withRows l (putRow o join r (l .rows))) l t
+
+pub put-refused : {K R : Type 0} (o : KeyOps K R) (join : R → R → R) (r : R) (l : Ledger R) → takes o r l ≡ false → putIn o join r l ≡ l
+put-refused o join r l f = cond-false (takes o r l) (withRows l (putRow o join r (l .rows))) l f
+
 module _ {K R : Type 0} (o : KeyOps K R) (laws : OrderLaws o) (join : R → R → R) (joins : JoinLaws o join) where
   -- a row that is taken leaves the rows within the most
   pub length-taken : (r : R) (l : Ledger R) → Rising o (l .rows) → takes o r l ≡ true → length (l .rows) ≤ l .most → length (putRow o join r (l .rows)) ≤ l .most
@@ -354,9 +361,9 @@ module _ {K R : Type 0} (o : KeyOps K R) (laws : OrderLaws o) (join : R → R �
       ⊎-elim
       (λ y. let e = length-put o laws join joins r (l .rows) rising ∙ cond-true held (length (l .rows)) (suc (length (l .rows))) y in omega arith)
       (λ n.
-        let e = length-put o laws join joins r (l .rows) rising ∙ cond-false held (length (l .rows)) (suc (length (l .rows))) n in
-        let h : length (l .rows) < l .most = ⊎-elim (λ y. absurd (both-ways held n y)) (λ y. ltb-true (length (l .rows)) (l .most) y) (or-cases held (ltb (length (l .rows)) (l .most)) t) in
-        omega arith)
+      let e = length-put o laws join joins r (l .rows) rising ∙ cond-false held (length (l .rows)) (suc (length (l .rows))) n in
+      let h : length (l .rows) < l .most = ⊎-elim (λ y. absurd (both-ways held n y)) (λ y. ltb-true (length (l .rows)) (l .most) y) (or-cases held (ltb (length (l .rows)) (l .most)) t) in
+      omega arith)
       (cases-bool held)
 
   -- a row of a key that was put is taken
@@ -365,9 +372,12 @@ module _ {K R : Type 0} (o : KeyOps K R) (laws : OrderLaws o) (join : R → R �
       or-left (holds o (o .keyOf r) (putRow o join h rows)) (ltb (length (putRow o join h rows)) most)
       (ap isSome (find-put o laws join joins (o .keyOf r) h rows rising ∙ ap (λ y. byOrder y (findRow o (o .keyOf r) rows) (Some (joinTo join (findRow o (o .keyOf r) rows) h)) (findRow o (o .keyOf r) rows)) q))
 
--- a put that is taken, and one that is refused
-pub put-taken : {K R : Type 0} (o : KeyOps K R) (join : R → R → R) (r : R) (l : Ledger R) → takes o r l ≡ true → putIn o join r l ≡ withRows l (putRow o join r (l .rows))
-put-taken o join r l t = cond-true (takes o r l) (withRows l (putRow o join r (l .rows))) l t
-
-pub put-refused : {K R : Type 0} (o : KeyOps K R) (join : R → R → R) (r : R) (l : Ledger R) → takes o r l ≡ false → putIn o join r l ≡ l
-put-refused o join r l f = cond-false (takes o r l) (withRows l (putRow o join r (l .rows))) l f
+  -- a put keeps the law of a store
+  pub put-kept : (r : R) (l : Ledger R) (own new : Type 0) → Kept o l own → new → Kept o (putIn o join r l) new
+  put-kept r l own new k n =
+      ⊎-elim
+      (λ t.
+      subst (λ x. Kept o x new) (sym (put-taken o join r l t))
+      (record { rising = put-rising o laws join joins r (l .rows) (k .rising); within = length-taken r l (k .rising) t (k .within); own-kept = n }))
+      (λ f. subst (λ x. Kept o x new) (sym (put-refused o join r l f)) (record { rising = k .rising; within = k .within; own-kept = n }))
+      (cases-bool (takes o r l))

@@ -1,5 +1,5 @@
 -- The lexical order of lists of numbers has the laws of a key order.
-use mathlib.Core.Path.{_≡_, refl, sym, ap, _∙_}
+use mathlib.Core.Path.{_≡_, refl, sym, _∙_}
 use mathlib.Core.List.{List, [], _∷_}
 use mathlib.Core.Logic.{_⊎_, inl, inr, ⊎-elim}
 use Prim.Native.Nat.{ℕ, _<_}
@@ -70,15 +70,15 @@ lex-transitive (x ∷ xs) (y ∷ ys) [] e f = let z : _≡_ {A = ℕ} 0 1 = cc i
 lex-transitive (x ∷ xs) (y ∷ ys) (z ∷ zs) e f =
     ⊎-elim
     (λ p. ⊎-elim
-      (λ q. below (omega (arith, order-less x y p, order-less y z q)))
-      (λ q. below (omega (arith, order-less x y p, order-identical y z (q .0))))
-      (then-less (orderOf y z) (lexOrder ys zs) f))
+    (λ q. below (omega (arith, order-less x y p, order-less y z q)))
+    (λ q. below (omega (arith, order-less x y p, order-identical y z (q .0))))
+    (then-less (orderOf y z) (lexOrder ys zs) f))
     (λ p. ⊎-elim
-      (λ q. below (omega (arith, order-identical x y (p .0), order-less y z q)))
-      (λ q.
-        let head : x ≡ z = order-identical x y (p .0) ∙ order-identical y z (q .0) in
-        rw (head, order-same z) (lex-transitive xs ys zs (p .1) (q .1)))
-      (then-less (orderOf y z) (lexOrder ys zs) f))
+    (λ q. below (omega (arith, order-identical x y (p .0), order-less y z q)))
+    (λ q.
+    let head : x ≡ z = order-identical x y (p .0) ∙ order-identical y z (q .0) in
+    rw (head, order-same z) (lex-transitive xs ys zs (p .1) (q .1)))
+    (then-less (orderOf y z) (lexOrder ys zs) f))
     (then-less (orderOf x y) (lexOrder xs ys) e)
   where
     below : x < z → lexOrder (x ∷ xs) (z ∷ zs) ≡ Less

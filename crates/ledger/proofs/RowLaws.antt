@@ -1,8 +1,8 @@
 -- Lines and days are lawful rows, and a row is read back from its cell.
 use mathlib.Core.Path.{_≡_, refl, sym, ap, _∙_}
-use mathlib.Core.Bool.{Bool, true, false, _&&_}
-use mathlib.Core.List.{List, [], _∷_}
-use Prim.Native.Nat.{ℕ, _+_, _≤_, min, max}
+use mathlib.Core.Bool.{Bool, true, false}
+use mathlib.Core.List.{[], _∷_}
+use Prim.Native.Nat.{ℕ, min, max}
 use native.Mathlib.Bridge.{le-prop}
 use native.Mathlib.Omega.{arith}
 use lib.Dec.{leb}
@@ -23,10 +23,10 @@ use Rattle.values.specs.declared.calendar.TimeOfDay.{TimeOfDay}
 use Rattle.values.specs.declared.labels.Point.{Point}
 use Rattle.values.specs.declared.labels.Descriptor.{Descriptor}
 use Rattle.values.specs.declared.rates.Tariff.{Tariff}
-use Rattle.ledger.specs.Keys.{KeyOps, OrderLaws, JoinLaws}
-use Rattle.ledger.specs.Lex.{keysBy, lexOrder}
+use Rattle.ledger.specs.Keys.{OrderLaws, JoinLaws}
+use Rattle.ledger.specs.Lex.{lexOrder}
 use Rattle.ledger.specs.Sums.{mostCalls, mostTenths, IsTraffic, isTraffic}
-use Rattle.ledger.specs.Rows.{traffic-range, trafficOf, stopped, ofCall, plus, lineFigures, lineKeys, joinLines, lineOf, lineCell, lineCellFigures, lineCellOrder, dayFigures, dayKeys, joinDays, dayRowOf, dayCell, dayCellFigures, dayCellOrder}
+use Rattle.ledger.specs.Rows.{traffic-range, trafficOf, plus, lineFigures, lineKeys, joinLines, lineOf, lineCell, lineCellFigures, lineCellOrder, dayFigures, dayKeys, joinDays, dayRowOf, dayCell, dayCellFigures, dayCellOrder}
 use Rattle.ledger.proofs.Ledgers.{none≢some}
 use Rattle.ledger.proofs.LexLaws.{keys-lawful}
 use Rattle.ledger.specs.declared.traffic.Traffic.{Traffic}

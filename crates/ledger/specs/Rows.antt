@@ -8,7 +8,7 @@ use lib.Dec.{leb}
 use Rattle.std.proofs.shelf.Tests.{and-parts, leb-true}
 use Rattle.std.specs.declared.cmp.Ordering.{Ordering}
 use Rattle.std.specs.declared.option.Option.{Option}
-use Rattle.std.specs.declared.option.Option.the-variants.{None, Some}
+use Rattle.std.specs.declared.option.Option.the-variants.{Some}
 use Rattle.values.specs.Checked.{checked, andThen}
 use Rattle.values.specs.Values.{monthOf, dayOf, timeOf, tariffOf, pointOf, descriptorOf, earlier, later}
 use Rattle.ledger.specs.Keys.{KeyOps}

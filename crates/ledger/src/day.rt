@@ -3,13 +3,13 @@ ghost use mathlib.Core.Path.{_≡_};
 ghost use mathlib.Core.List.{[], _∷_};
 ghost use Rattle.ledger.specs.Lex.{lexOrder};
 ghost use Rattle.ledger.specs.Rows.{dayFigures, dayKeys, joinDays, dayRowOf, dayCell, dayCellOrder};
+use crate::row::Row;
+use crate::row::TableRow;
+use crate::traffic::Traffic;
 use std::cmp::Ordering;
 use values::calendar::Day;
 use values::calendar::TimeOfDay;
 use values::labels::Point;
-use crate::row::Row;
-use crate::row::TableRow;
-use crate::traffic::Traffic;
 
 #[derive(Clone, Copy)]
 pub struct DayKey {
@@ -94,7 +94,12 @@ pub impl TableRow for DayRow as DayRowIsTableRow {
         let earliest = TimeOfDay::new(cell.earliest)?;
         let latest = TimeOfDay::new(cell.latest)?;
         let key = DayKey { day, point };
-        Some(DayRow { key, traffic, earliest, latest })
+        Some(DayRow {
+            key,
+            traffic,
+            earliest,
+            latest,
+        })
     }
 
     fn to_cell(self) -> DayCell {

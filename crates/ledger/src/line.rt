@@ -3,14 +3,14 @@ ghost use mathlib.Core.Path.{_≡_};
 ghost use mathlib.Core.List.{[], _∷_};
 ghost use Rattle.ledger.specs.Lex.{lexOrder};
 ghost use Rattle.ledger.specs.Rows.{lineFigures, lineKeys, joinLines, lineOf, lineCell, lineCellOrder};
+use crate::row::Row;
+use crate::row::TableRow;
+use crate::traffic::Traffic;
 use std::cmp::Ordering;
 use values::calendar::Month;
 use values::labels::Descriptor;
 use values::labels::Point;
 use values::rates::Tariff;
-use crate::row::Row;
-use crate::row::TableRow;
-use crate::traffic::Traffic;
 
 #[derive(Clone, Copy)]
 pub struct LineKey {
@@ -98,7 +98,12 @@ pub impl TableRow for LineRow as LineRowIsTableRow {
         let descriptor = Descriptor::new(cell.descriptor)?;
         let tariff = Tariff::new(cell.tariff)?;
         let traffic = Traffic::new(cell.calls, cell.tenths)?;
-        let key = LineKey { month, point, descriptor, tariff };
+        let key = LineKey {
+            month,
+            point,
+            descriptor,
+            tariff,
+        };
         Some(LineRow { key, traffic })
     }
 
@@ -114,6 +119,9 @@ pub impl TableRow for LineRow as LineRowIsTableRow {
     }
 
     fn compare_cell(cell: &LineCell, key: &LineKey) -> Ordering {
-        compare_figures((cell.month, cell.point, cell.descriptor, cell.tariff), key.figures())
+        compare_figures(
+            (cell.month, cell.point, cell.descriptor, cell.tariff),
+            key.figures(),
+        )
     }
 }

@@ -64,9 +64,10 @@ impl Posting {
             day: self.day,
             point: self.key.point,
         };
+        let tenths = u64::from(self.tenths.count);
         DayRow {
             key,
-            traffic: Traffic::of_call(u64::from(self.tenths.count)),
+            traffic: Traffic::of_call(tenths),
             earliest: self.time,
             latest: self.time,
         }

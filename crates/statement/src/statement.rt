@@ -1,4 +1,7 @@
 // A statement: records taken against a book and booked into a line store and a day store.
+mod views;
+mod writing;
+
 ghost use mathlib.Core.Path.{_≡_};
 ghost use Prim.Native.Nat.{_<_, _≤_};
 ghost use Rattle.ledger.specs.Ledger.{Kept as StoreKept};
@@ -121,30 +124,5 @@ impl<L: RowStore<Row = LineRow>, D: RowStore<Row = DayRow>> Statement<L, D> {
                 Err(fault)
             }
         }
-    }
-
-    pub fn terms(&self) -> Terms
-        ensures { λ r. ⌜ r ≡ model L·RowStore D·RowStore (now (self .entry)) .terms ⌝ }
-    {
-        self.terms
-    }
-
-    pub fn reference(&self) -> Month
-        ensures { λ r. ⌜ r ≡ model L·RowStore D·RowStore (now (self .entry)) .reference ⌝ }
-    {
-        self.reference
-    }
-
-    // How many records were taken.
-    pub fn taken(&self) -> u32
-        ensures { λ r. ⌜ r ≡ model L·RowStore D·RowStore (now (self .entry)) .taken ⌝ }
-    {
-        self.taken
-    }
-
-    pub fn board(&self) -> RefusalBoard
-        ensures { λ r. ⌜ r ≡ model L·RowStore D·RowStore (now (self .entry)) .board ⌝ }
-    {
-        self.board
     }
 }

@@ -2,11 +2,11 @@
 use mathlib.Core.Path.{_≡_, refl, sym, ap, _∙_, subst}
 use mathlib.Core.Bool.{Bool, true, false, cond}
 use mathlib.Core.List.{List, [], _∷_, _++_, map}
-use Prim.Native.Nat.{ℕ, zero, suc, _+_, _-_, _<_, _≤_}
+use Prim.Native.Nat.{ℕ, zero, suc, _+_, _-_, _/_, _<_, _≤_}
 use native.Mathlib.Omega.{arith}
 use borrow.Rule.Slice.PartMut.{putMid}
 use lib.Dec.{ltb}
-use lib.ListN.{length, take, drop, set}
+use lib.ListN.{length, take, drop, set, getD}
 use Rattle.std.specs.Finite.{nth}
 use Rattle.std.specs.Holes.{between}
 use Rattle.std.specs.Options.{isSome}
@@ -14,16 +14,16 @@ use Rattle.std.proofs.shelf.Lists.{length-take-le, length-set, length-append, l
 use Rattle.std.proofs.shelf.Maps.{nth-past}
 use Rattle.std.proofs.shelf.Tests.{false≢true, or-left, or-right, or-from, lt-ltb, le-ltb}
 use Rattle.std.proofs.shelf.Parts.{between-is, take-putMid}
+use Rattle.std.specs.declared.cmp.Ordering.{Ordering}
 use Rattle.std.specs.declared.cmp.Ordering.the-variants.{Less, Equal, Greater}
 use Rattle.std.specs.declared.option.Option.{Option}
 use Rattle.std.specs.declared.option.Option.the-variants.{None, Some}
-use Rattle.std.specs.declared.result.Result.{Result}
 use Rattle.std.specs.declared.result.Result.the-variants.{Ok, Err}
 use Rattle.ledger.specs.Keys.{KeyOps, OrderLaws, JoinLaws}
 use Rattle.ledger.specs.Ledger.{Rising, findRow, nextRow, putRow, holds, takes, position, place}
 use Rattle.stores.specs.Table.{tableRows, tableLedger, Table, TablePut}
-use Rattle.ledger.proofs.Ledgers.{none≢some, less≢greater, less≢equal, position-le, position-after, position-upto, position-at, find-at, find-none, nth-found, next-at, find-key, put-rising}
-use Rattle.stores.proofs.Tables.{Stands, table-rows, table-of, cells-held, cells-new}
+use Rattle.ledger.proofs.Ledgers.{none≢some, less≢greater, position-le, position-after, position-upto, position-at, find-at, find-none, nth-found, next-at, find-key, put-rising}
+use Rattle.stores.proofs.Tables.{Stands, row-ranked, table-rows, table-of, cells-held, cells-new}
 
 some-is : {X : Type 0} {x y : X} → Some x ≡ Some y → x ≡ y
 some-is e = cc
@@ -45,18 +45,18 @@ module _ {K R : Type 0} (o : KeyOps K R) (laws : OrderLaws o) (rows : List R) (r
       (omega arith, omega arith, omega arith, λ r q. absurd (none≢some (nth-past rows n (omega arith)) q))
 
   module _ (low high n m : ℕ) (b : Between o rows k low high n) where
-    pub goes-up : Stands o rows m k Less → Between o rows k (m + 1) high n
+    goes-up : Stands o rows m k Less → Between o rows k (m + 1) high n
     goes-up s =
         let p = position-after o laws k rows m (s .row) rising (s .here) (sym (s .ranked)) in
         (omega arith, b .1, b .2, b .3)
 
-    pub goes-down : m < high → Stands o rows m k Greater → Between o rows k low m n
+    goes-down : m < high → Stands o rows m k Greater → Between o rows k low m n
     goes-down h s =
         let g = sym (s .ranked) in
         let p = position-upto o laws k rows m (s .row) (s .here) (λ l. less≢greater l g) in
         (b .0, p, let q = b .2 in omega arith, λ r q. let same : r ≡ s .row = some-is (sym q ∙ s .here) in subst (λ y. o .order (o .keyOf y) k ≡ Greater) (sym same) g)
 
-  pub ends-at : (m : ℕ) → Stands o rows m k Equal → Ok m ≡ place o k rows
+  ends-at : (m : ℕ) → Stands o rows m k Equal → Ok m ≡ place o k rows
   ends-at m s =
       let q = sym (s .ranked) in
       rw (find-at o laws k rows m (s .row) rising (s .here) q, position-at o laws k rows m (s .row) rising (s .here) q)
@@ -67,6 +67,23 @@ module _ {K R : Type 0} (o : KeyOps K R) (laws : OrderLaws o) (rows : List R) (r
       let g : high ≡ position o k rows = let p = b .0 in let q = b .1 in omega arith in
       let none = find-none o laws k rows rising (λ r q. b .3 r (ap (nth rows) g ∙ q)) in
       rw none (ap Err l)
+
+-- one probe: between low and high the cell x stands in the middle
+module _ {K C R : Type 0} (o : KeyOps K R) (laws : OrderLaws o) (of : C → Option R) (cell : R → C) (read : (r : R) → of (cell r) ≡ Some r)
+    (rank : C → K → Ordering) (ranked : (c : C) (k : K) (r : R) → of c ≡ Some r → rank c k ≡ o .order (o .keyOf r) k)
+    (cells : List C) (n : ℕ) (t : Table o of cell cells n) (k : K) (low high : ℕ) (b : Between o (tableRows of cells n) k low high n) (h : low < high)
+    (x : C) (at : x ≡ getD cells (low + (high - low) / 2) x) where
+  stands : (v : Ordering) → v ≡ rank x k → Stands o (tableRows of cells n) (low + (high - low) / 2) k v
+  stands v e = row-ranked o of cell read rank ranked cells n (low + (high - low) / 2) x t (let w = b .2 in omega arith) at k v e
+
+  pub probed-less : Less ≡ rank x k → Between o (tableRows of cells n) k (low + (high - low) / 2 + 1) high n
+  probed-less e = goes-up o laws (tableRows of cells n) (t .rising) k low high n (low + (high - low) / 2) b (stands Less e)
+
+  pub probed-equal : Equal ≡ rank x k → Ok (low + (high - low) / 2) ≡ place o k (tableRows of cells n)
+  probed-equal e = ends-at o laws (tableRows of cells n) (t .rising) k (low + (high - low) / 2) (stands Equal e)
+
+  pub probed-greater : Greater ≡ rank x k → Between o (tableRows of cells n) k low (low + (high - low) / 2) n
+  probed-greater e = goes-down o laws (tableRows of cells n) (t .rising) k low high n (low + (high - low) / 2) b (omega arith) (stands Greater e)
 
 -- what the end of a search tells
 place-ok : (b : Bool) (i p : ℕ) → Ok i ≡ cond b (Ok p) (Err p) → (b ≡ true) × (i ≡ p)
@@ -113,10 +130,11 @@ module _ {K C R : Type 0} (o : KeyOps K R) (of : C → Option R) (cell : R → C
   -- cells that hold the rows with r put are as the put leaves them
   put-leaves : (new : List C) (m : ℕ) → m ≤ length new → length new ≡ length cells → take m new ≡ map cell (putRow o join r (tableRows of cells n)) → takes o r (tableLedger of cells n) ≡ true → TablePut o of cell join r cells n new (Ok m)
   put-leaves new m w long e taken =
-      let rows = putRow o join r (tableRows of cells n) in
-      (table-of o of cell read rows new m w e (put-rising o laws join joins r (tableRows of cells n) (t .rising)),
-       taken,
-       λ j. record { rows = table-rows o of cell read rows new m e j; most = long j })
+      let rows = putRow o join r (tableRows of cells n) in (
+        table-of o of cell read rows new m w e (put-rising o laws join joins r (tableRows of cells n) (t .rising)),
+        taken,
+        λ j. record { rows = table-rows o of cell read rows new m e j; most = long j },
+      )
 
   pub put-held-cell : Ok i ≡ place o k (tableRows of cells n) → i < n → (s : R) → nth (tableRows of cells n) i ≡ Some s → (x : C) → x ≡ cell (join s r) → TablePut o of cell join r cells n (set cells i x) (Ok n)
   put-held-cell e h s here x is =
@@ -152,15 +170,15 @@ insert-turned {C} xs ys n i y h w e =
     let rest : List C = drop i (take n xs) in
     let len : length (take n xs) ≡ n = length-take-le n xs (omega arith) in
     let part : between i (n + 1) (set xs n y) ≡ rest ++ (y ∷ []) =
-          between-is (set xs n y) i (n + 1) ∙ ap (drop i) (take-more-set xs n y w) ∙ drop-append-le i (take n xs) (y ∷ []) (omega arith) in
+    between-is (set xs n y) i (n + 1) ∙ ap (drop i) (take-more-set xs n y w) ∙ drop-append-le i (take n xs) (y ∷ []) (omega arith) in
     let long : length (between i (n + 1) (set xs n y)) - 1 ≡ length rest =
-          ap (λ v. length v - 1) part ∙ ap (λ v. v - 1) (length-append rest (y ∷ [])) ∙ omega arith in
+    ap (λ v. length v - 1) part ∙ ap (λ v. v - 1) (length-append rest (y ∷ [])) ∙ omega arith in
     let turned : ys ≡ y ∷ rest =
-          e
-          ∙ ap (λ v. drop v (between i (n + 1) (set xs n y)) ++ take v (between i (n + 1) (set xs n y))) long
-          ∙ ap (λ v. drop (length rest) v ++ take (length rest) v) part
-          ∙ ap (λ v. v ++ take (length rest) (rest ++ (y ∷ []))) (drop-at rest (y ∷ []) (length rest) refl)
-          ∙ ap (λ v. y ∷ v) (take-at rest (y ∷ []) (length rest) refl) in
+    e
+    ∙ ap (λ v. drop v (between i (n + 1) (set xs n y)) ++ take v (between i (n + 1) (set xs n y))) long
+    ∙ ap (λ v. drop (length rest) v ++ take (length rest) v) part
+    ∙ ap (λ v. v ++ take (length rest) (rest ++ (y ∷ []))) (drop-at rest (y ∷ []) (length rest) refl)
+    ∙ ap (λ v. y ∷ v) (take-at rest (y ∷ []) (length rest) refl) in
     let all : length ys ≡ suc (length rest) = ap length turned in
     let some : length rest ≡ n - i = length-drop i (take n xs) ∙ ap (λ v. v - i) len in
     take-putMid i (n + 1 - i) (set xs n y) ys (n + 1) (omega arith) (rw length-set (omega arith))

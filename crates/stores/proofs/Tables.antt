@@ -7,17 +7,16 @@ use lib.ListN.{length, take, drop, set, getD}
 use lib.Seq.{take-set-lt}
 use Rattle.std.specs.Finite.{nth}
 use Rattle.std.specs.Options.{mapped}
-use Rattle.std.specs.Vec.{listOf}
-use Rattle.std.proofs.shelf.Lists.{length-take-le, length-map, getD-take, map-set, map-append, take-map, drop-map}
-use Rattle.std.proofs.shelf.Maps.{nth-read, nth-getD}
+use Rattle.std.proofs.shelf.Lists.{length-take-le, length-map, map-set, map-append, take-map, drop-map}
+use Rattle.std.proofs.shelf.Maps.{nth-read}
 use Rattle.std.specs.declared.option.Option.{Option}
 use Rattle.std.specs.declared.option.Option.the-variants.{None, Some}
 use Rattle.std.specs.declared.cmp.Ordering.{Ordering}
-use Rattle.std.specs.declared.cmp.Ordering.the-variants.{Less, Equal, Greater}
-use Rattle.ledger.specs.Keys.{KeyOps, OrderLaws, JoinLaws}
-use Rattle.ledger.specs.Ledger.{Rising, findRow, nextRow, putRow, holds, position, place}
+use Rattle.std.specs.declared.cmp.Ordering.the-variants.{Equal}
+use Rattle.ledger.specs.Keys.{KeyOps, OrderLaws}
+use Rattle.ledger.specs.Ledger.{Rising, findRow, putRow, holds, position, place}
 use Rattle.stores.specs.Table.{rowsOf, tableRows, Table}
-use Rattle.ledger.proofs.Ledgers.{none≢some, put-held, put-new, put-rising}
+use Rattle.ledger.proofs.Ledgers.{none≢some, put-held, put-new}
 
 nth-map : {X Y : Type 0} (f : X → Y) (xs : List X) (i : ℕ) → nth (map f xs) i ≡ mapped f (nth xs i)
 nth-map f [] i = refl

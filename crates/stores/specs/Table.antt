@@ -10,6 +10,8 @@ use Rattle.std.specs.declared.result.Result.{Result}
 use Rattle.std.specs.declared.result.Result.the-variants.{Ok, Err}
 use Rattle.ledger.specs.Keys.{KeyOps}
 use Rattle.ledger.specs.Ledger.{Ledger, Rising, putRow, takes, withRows}
+use Rattle.ledger.specs.declared.row.Row as Row
+use Rattle.ledger.specs.declared.row.TableRow as TableRow
 use Rattle.ledger.specs.declared.store.Full.{Full}
 
 -- the rows of cells, in their order
@@ -39,3 +41,16 @@ TablePut o of cell join r old n new (Ok m) =
     × (takes o r (tableLedger of old n) ≡ true)
     × (tableLedger of new m ≡ withRows (tableLedger of old n) (putRow o join r (tableRows of old n)))
 TablePut o of cell join r old n new (Err e) = (takes o r (tableLedger of old n) ≡ false) × (e ≡ record { row = r }) × (new ≡ old)
+
+-- the same of a row type, by what it says of its rows and of its cells
+abbrev pub rowsIn : {K C R : Type 0} → TableRow.Ghosts R C K → List C → ℕ → List R
+rowsIn table cells n = tableRows (table .rowOf) cells n
+
+abbrev pub ledgerIn : {K C R : Type 0} → TableRow.Ghosts R C K → List C → ℕ → Ledger R
+ledgerIn table cells n = tableLedger (table .rowOf) cells n
+
+abbrev pub Tabled : {K C R : Type 0} → Row.Ghosts R K → TableRow.Ghosts R C K → List C → ℕ → Type 0
+Tabled row table cells n = Table (row .keys) (table .rowOf) (table .cellOf) cells n
+
+abbrev pub Put : {K C R : Type 0} → Row.Ghosts R K → TableRow.Ghosts R C K → R → List C → ℕ → List C → Result ℕ (Full R) → Type 0
+Put row table r old n new answer = TablePut (row .keys) (table .rowOf) (table .cellOf) (row .joined) r old n new answer

@@ -7,17 +7,17 @@ ghost use Rattle.std.specs.Finite.{nth};
 ghost use Rattle.std.specs.Results.{Cases};
 ghost use Rattle.std.specs.declared.option.Option.the-variants.{Some};
 ghost use Rattle.ledger.specs.Ledger.{findRow, nextRow, place};
-ghost use Rattle.stores.specs.Table.{Table, TablePut, tableRows};
-use std::cmp::Ordering;
+ghost use Rattle.stores.specs.Table.{Tabled, Put, rowsIn};
 use ledger::row::Row;
 use ledger::row::TableRow;
 use ledger::store::Full;
+use std::cmp::Ordering;
 
 // The row at `i`, one of the first `len`.
 pub fn row_at<R: TableRow>(cells: &[R::Cell], len: usize, i: usize) -> R
-    requires table { ⌜ Table (R·Row .keys) (R·TableRow .rowOf) (R·TableRow .cellOf) (now cells) len ⌝ }
+    requires table { ⌜ Tabled R·Row R·TableRow (now cells) len ⌝ }
     requires within { ⌜ i < len ⌝ }
-    ensures { λ r. ⌜ nth (tableRows (R·TableRow .rowOf) (now (cells .entry)) len) i ≡ Some r ⌝ }
+    ensures { λ r. ⌜ nth (rowsIn R·TableRow (now (cells .entry)) len) i ≡ Some r ⌝ }
 {
     match R::from_cell(cells[i]) {
         Some(row) => row,
@@ -27,8 +27,8 @@ pub fn row_at<R: TableRow>(cells: &[R::Cell], len: usize, i: usize) -> R
 
 // Where the key stands, or where it belongs.
 pub fn search<R: TableRow>(cells: &[R::Cell], len: usize, key: R::Key) -> Result<usize, usize>
-    requires { ⌜ Table (R·Row .keys) (R·TableRow .rowOf) (R·TableRow .cellOf) (now cells) len ⌝ }
-    ensures found { λ r. ⌜ r ≡ place (R·Row .keys) key (tableRows (R·TableRow .rowOf) (now (cells .entry)) len) ⌝ }
+    requires { ⌜ Tabled R·Row R·TableRow (now cells) len ⌝ }
+    ensures found { λ r. ⌜ r ≡ place (R·Row .keys) key (rowsIn R·TableRow (now (cells .entry)) len) ⌝ }
     ensures within { λ r. ⌜ Cases r (λ i. i < len) (λ i. i ≤ len) ⌝ }
 {
     let mut low = 0;
@@ -56,8 +56,8 @@ pub fn insert_cell<C: Copy>(cells: &mut [C], len: usize, at: usize, cell: C)
 
 // The row with this key.
 pub fn find_row<R: TableRow>(cells: &mut [R::Cell], len: usize, key: R::Key) -> Option<R>
-    requires { ⌜ Table (R·Row .keys) (R·TableRow .rowOf) (R·TableRow .cellOf) (now cells) len ⌝ }
-    ensures found { λ r. ⌜ r ≡ findRow (R·Row .keys) key (tableRows (R·TableRow .rowOf) (now (cells .entry)) len) ⌝ }
+    requires { ⌜ Tabled R·Row R·TableRow (now cells) len ⌝ }
+    ensures found { λ r. ⌜ r ≡ findRow (R·Row .keys) key (rowsIn R·TableRow (now (cells .entry)) len) ⌝ }
     ensures same { λ _. ⌜ now (cells .exit) ≡ now (cells .entry) ⌝ }
 {
     match search::<R>(cells, len, key) {
@@ -68,8 +68,8 @@ pub fn find_row<R: TableRow>(cells: &mut [R::Cell], len: usize, key: R::Key) -> 
 
 // The index of the first row, or of the first above a key.
 fn next_at<R: TableRow>(cells: &[R::Cell], len: usize, after: &Option<R::Key>) -> usize
-    requires { ⌜ Table (R·Row .keys) (R·TableRow .rowOf) (R·TableRow .cellOf) (now cells) len ⌝ }
-    ensures { λ r. ⌜ nth (tableRows (R·TableRow .rowOf) (now (cells .entry)) len) r ≡ nextRow (R·Row .keys) (now (after .entry)) (tableRows (R·TableRow .rowOf) (now (cells .entry)) len) ⌝ }
+    requires { ⌜ Tabled R·Row R·TableRow (now cells) len ⌝ }
+    ensures { λ r. ⌜ nth (rowsIn R·TableRow (now (cells .entry)) len) r ≡ nextRow (R·Row .keys) (now (after .entry)) (rowsIn R·TableRow (now (cells .entry)) len) ⌝ }
 {
     let Some(key) = after else {
         return 0;
@@ -82,8 +82,8 @@ fn next_at<R: TableRow>(cells: &[R::Cell], len: usize, after: &Option<R::Key>) -
 
 // The first row, or the first above a key.
 pub fn next_row<R: TableRow>(cells: &mut [R::Cell], len: usize, after: &Option<R::Key>) -> Option<R>
-    requires { ⌜ Table (R·Row .keys) (R·TableRow .rowOf) (R·TableRow .cellOf) (now cells) len ⌝ }
-    ensures found { λ r. ⌜ r ≡ nextRow (R·Row .keys) (now (after .entry)) (tableRows (R·TableRow .rowOf) (now (cells .entry)) len) ⌝ }
+    requires { ⌜ Tabled R·Row R·TableRow (now cells) len ⌝ }
+    ensures found { λ r. ⌜ r ≡ nextRow (R·Row .keys) (now (after .entry)) (rowsIn R·TableRow (now (cells .entry)) len) ⌝ }
     ensures same { λ _. ⌜ now (cells .exit) ≡ now (cells .entry) ⌝ }
 {
     let at = next_at::<R>(cells, len, after);
@@ -96,8 +96,8 @@ pub fn next_row<R: TableRow>(cells: &mut [R::Cell], len: usize, after: &Option<R
 
 // Joins the row to the one of its key or inserts it, and answers the number of rows.
 pub fn put_row<R: TableRow>(cells: &mut [R::Cell], len: usize, row: R) -> Result<usize, Full<R>>
-    requires { ⌜ Table (R·Row .keys) (R·TableRow .rowOf) (R·TableRow .cellOf) (now cells) len ⌝ }
-    ensures { λ r. ⌜ TablePut (R·Row .keys) (R·TableRow .rowOf) (R·TableRow .cellOf) (R·Row .joined) row (now (cells .entry)) len (now (cells .exit)) r ⌝ }
+    requires { ⌜ Tabled R·Row R·TableRow (now cells) len ⌝ }
+    ensures { λ r. ⌜ Put R·Row R·TableRow row (now (cells .entry)) len (now (cells .exit)) r ⌝ }
 {
     match search::<R>(cells, len, row.key()) {
         Ok(at) => {

@@ -3,15 +3,15 @@ ghost use mathlib.Core.Path.{_≡_};
 ghost use mathlib.Core.List.{[]};
 ghost use lib.ListN.{length};
 ghost use Rattle.ledger.specs.Ledger.{Ledger, Kept};
-ghost use Rattle.stores.specs.Table.{Table, tableLedger};
+ghost use Rattle.stores.specs.Table.{Tabled, ledgerIn};
+use crate::search::find_row;
+use crate::search::next_row;
+use crate::search::put_row;
 use ledger::row::Row;
 use ledger::row::TableRow;
 use ledger::store::Full;
 use ledger::store::RowStore;
 use ledger::store::Size;
-use crate::search::find_row;
-use crate::search::next_row;
-use crate::search::put_row;
 
 #[derive(Drop)]
 pub struct TableStore<'a, R: TableRow> {
@@ -22,8 +22,8 @@ pub struct TableStore<'a, R: TableRow> {
 impl<'a, R: TableRow> TableStore<'a, R> {
     // An empty store that holds at most one row for each cell.
     pub fn new(cells: &'a mut [R::Cell]) -> TableStore<'a, R>
-        ensures empty { λ r. ⌜ tableLedger (R·TableRow .rowOf) (now (r .cells)) (r .len) ≡ record { rows = []; most = length (now (cells .entry)) } ⌝ }
-        ensures kept { λ r. ⌜ Kept (R·Row .keys) (tableLedger (R·TableRow .rowOf) (now (r .cells)) (r .len)) (Table (R·Row .keys) (R·TableRow .rowOf) (R·TableRow .cellOf) (now (r .cells)) (r .len)) ⌝ }
+        ensures empty { λ r. ⌜ ledgerIn R·TableRow (now (r .cells)) (r .len) ≡ record { rows = []; most = length (now (cells .entry)) } ⌝ }
+        ensures kept { λ r. ⌜ Kept (R·Row .keys) (ledgerIn R·TableRow (now (r .cells)) (r .len)) (Tabled R·Row R·TableRow (now (r .cells)) (r .len)) ⌝ }
     {
         TableStore { cells, len: 0 }
     }
@@ -32,9 +32,9 @@ impl<'a, R: TableRow> TableStore<'a, R> {
 pub impl<'a, R: TableRow> RowStore for TableStore<'a, R> as TableStoreIsRowStore {
     type Row = R;
 
-    ghost ledger = { λ s. tableLedger (R·TableRow .rowOf) (s .cells .now) (s .len) };
+    ghost ledger = { λ s. ledgerIn R·TableRow (s .cells .now) (s .len) };
 
-    ghost kept = { λ s. Table (R·Row .keys) (R·TableRow .rowOf) (R·TableRow .cellOf) (s .cells .now) (s .len) };
+    ghost kept = { λ s. Tabled R·Row R·TableRow (s .cells .now) (s .len) };
 
     fn find(&mut self, key: R::Key) -> Option<R> {
         let len = self.len;

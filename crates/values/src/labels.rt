@@ -8,14 +8,14 @@ ghost use mathlib.Core.Path.{_≡_};
 ghost use Rattle.values.specs.Labels.{isPointNumber, isDescriptorNumber};
 
 // An interconnection point.
-#[derive(Clone, Copy, PartialEq, Eq, PartialOrd, Ord)]
+#[derive(Clone, Copy, PartialEq, Eq)]
 pub struct Point {
     number: u128,
     ghost ok: { isPointNumber number ≡ true },
 }
 
 // A descriptor of a call.
-#[derive(Clone, Copy, PartialEq, Eq, PartialOrd, Ord)]
+#[derive(Clone, Copy, PartialEq, Eq)]
 pub struct Descriptor {
     number: u64,
     ghost ok: { isDescriptorNumber number ≡ true },

@@ -7,7 +7,7 @@ ghost use Prim.Native.Nat.{_≤_, _+_};
 ghost use Rattle.values.specs.Rates.{IsScenario};
 
 // A tariff in millionths of a real per minute.
-#[derive(Clone, Copy, PartialEq, Eq, PartialOrd, Ord)]
+#[derive(Clone, Copy, PartialEq, Eq)]
 pub struct Tariff {
     number: u32,
     ghost ok: { number ≤ 9999999 },

@@ -4,6 +4,7 @@ ghost use Rattle.ledger.specs.Rows.{trafficOf, ofCall, plus};
 use super::Traffic;
 
 const MOST_CALLS: u64 = 999_999_999_999;
+
 const MOST_TENTHS: u64 = 9_999_999_999_999;
 
 impl Traffic {

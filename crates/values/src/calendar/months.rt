@@ -46,6 +46,6 @@ impl Month {
     pub fn is_within(self, reference: Month, back: u8) -> bool
         ensures { λ r. ⌜ r ≡ inWindow (reference .number) back (self .number) ⌝ }
     {
-        self.number <= reference.number && reference.index() <= self.index() + u32::from(back)
+        reference.number >= self.number && reference.index() <= self.index() + u32::from(back)
     }
 }

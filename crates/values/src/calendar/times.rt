@@ -41,7 +41,7 @@ impl TimeOfDay {
     pub fn later(self, other: TimeOfDay) -> TimeOfDay
         ensures { λ r. ⌜ r ≡ later self other ⌝ }
     {
-        if self.number <= other.number {
+        if other.number >= self.number {
             other
         } else {
             self

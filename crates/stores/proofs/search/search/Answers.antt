@@ -1,8 +1,6 @@
 use native.Mathlib.Omega.{arith}
-use Prim.Native.Nat.{ℕ, _+_, _-_, _/_}
 use Rattle.stores.specs.Table.{tableRows}
-use Rattle.stores.proofs.Searches.{starts, goes-up, goes-down, ends-at, ends-without}
-use Rattle.stores.proofs.Tables.{row-ranked}
+use Rattle.stores.proofs.Searches.{starts, probed-less, probed-equal, probed-greater, ends-without}
 use Rattle.stores.proofs.search.search.Needs as need
 
 pub loop-low-holds : need.loop-low-holds
@@ -13,22 +11,17 @@ pub loop-low-again-in-Less : need.loop-low-again-in-Less
 loop-low-again-in-Less g c =
     let t = g .R·TableRow in
     let m = g .R·TableRow·met in
-    let middle : ℕ = c .loop-low .low + (c .loop-low .high - c .loop-low .low) / 2 in
-    let stands =
-          row-ranked (g .R·Row .keys) (t .rowOf) (t .cellOf) (m .read) (t .cellOrder) (m .ranked) (c .args .cells .now) (c .args .len) middle
-          (c .index-cells-middle .result) (c .pre) (let h = c .loop-low-test .taken in let b = c .loop-low .inv .2 in omega arith) (c .index-cells-middle .is) (c .args .key) _ (c .in-Less .ensures tt) in
-    goes-up (g .R·Row .keys) (g .R·Row·met .ordered) _ (c .pre .rising) (c .args .key) (c .loop-low .low) (c .loop-low .high) (c .args .len) middle (c .loop-low .inv) stands
+    probed-less (g .R·Row .keys) (g .R·Row·met .ordered) (t .rowOf) (t .cellOf) (m .read) (t .cellOrder) (m .ranked) (c .args .cells .now) (c .args .len) (c .pre) (c .args .key)
+    (c .loop-low .low) (c .loop-low .high) (c .loop-low .inv) (c .loop-low-test .taken) (c .index-cells-middle .result) (c .index-cells-middle .is) (c .in-Less .ensures tt)
 
 pub returns-in-Equal : need.returns-in-Equal
 returns-in-Equal g c =
     let t = g .R·TableRow in
     let m = g .R·TableRow·met in
-    let middle : ℕ = c .loop-low .low + (c .loop-low .high - c .loop-low .low) / 2 in
-    let stands =
-          row-ranked (g .R·Row .keys) (t .rowOf) (t .cellOf) (m .read) (t .cellOrder) (m .ranked) (c .args .cells .now) (c .args .len) middle
-          (c .index-cells-middle .result) (c .pre) (let h = c .loop-low-test .taken in let b = c .loop-low .inv .2 in omega arith) (c .index-cells-middle .is) (c .args .key) _ (c .in-Equal .ensures tt) in
     record {
-      found = ends-at (g .R·Row .keys) (g .R·Row·met .ordered) _ (c .pre .rising) (c .args .key) middle stands;
+      found =
+          probed-equal (g .R·Row .keys) (g .R·Row·met .ordered) (t .rowOf) (t .cellOf) (m .read) (t .cellOrder) (m .ranked) (c .args .cells .now) (c .args .len) (c .pre) (c .args .key)
+          (c .loop-low .low) (c .loop-low .high) (c .loop-low .inv) (c .loop-low-test .taken) (c .index-cells-middle .result) (c .index-cells-middle .is) (c .in-Equal .ensures tt);
       within = let h = c .loop-low-test .taken in let b = c .loop-low .inv .2 in omega arith;
     }
 
@@ -36,11 +29,8 @@ pub loop-low-again : need.loop-low-again
 loop-low-again g c =
     let t = g .R·TableRow in
     let m = g .R·TableRow·met in
-    let middle : ℕ = c .loop-low .low + (c .loop-low .high - c .loop-low .low) / 2 in
-    let stands =
-          row-ranked (g .R·Row .keys) (t .rowOf) (t .cellOf) (m .read) (t .cellOrder) (m .ranked) (c .args .cells .now) (c .args .len) middle
-          (c .index-cells-middle .result) (c .pre) (let h = c .loop-low-test .taken in let b = c .loop-low .inv .2 in omega arith) (c .index-cells-middle .is) (c .args .key) _ (c .in-Greater .ensures tt) in
-    goes-down (g .R·Row .keys) (g .R·Row·met .ordered) _ (c .pre .rising) (c .args .key) (c .loop-low .low) (c .loop-low .high) (c .args .len) middle (c .loop-low .inv) (let h = c .loop-low-test .taken in omega arith) stands
+    probed-greater (g .R·Row .keys) (g .R·Row·met .ordered) (t .rowOf) (t .cellOf) (m .read) (t .cellOrder) (m .ranked) (c .args .cells .now) (c .args .len) (c .pre) (c .args .key)
+    (c .loop-low .low) (c .loop-low .high) (c .loop-low .inv) (c .loop-low-test .taken) (c .index-cells-middle .result) (c .index-cells-middle .is) (c .in-Greater .ensures tt)
 
 pub returns : need.returns
 returns g c = record {
