@@ -1,6 +1,9 @@
 // Settles one month. It reads the file `agreement` in the current folder and, on standard input, the reference month
 // and the call records, and prints the DETRAF file and what was refused.
+ghost use Prim.Native.Nat.{_≤_};
+ghost use lib.ListN.{length};
 ghost use mathlib.Core.Path.{_≡_};
+ghost use Rattle.std.specs.Vec.{made};
 ghost use Rattle.ledger.specs.Ledger.{Kept as StoreKept};
 ghost use Rattle.ledger.specs.Rows.{lineKeys, dayKeys};
 ghost use Rattle.statement.specs.Statement.{Kept};
@@ -74,16 +77,23 @@ fn read_terms(rt: &LibcRuntime, bytes: &[u8]) -> Result<Terms, AnyError> {
     }
 }
 
+// Fills the buffer from standard input, as far as the input goes, and answers how many bytes came.
+fn fill(rt: &LibcRuntime, buffer: &mut [u8]) -> Result<usize, AnyError>
+    ensures { λ r. ⌜ made r (λ n. n ≤ length (now (buffer .entry))) ⌝ }
+{
+    let mut input = rt.stdin();
+    let mut filled = 0;
+    // Each read before the end of the input brings a byte or more.
+    for _ in 0..buffer.len() {
+        filled += input.read(&mut buffer[filled..])?;
+    }
+    Ok(filled)
+}
+
 // The reference month of the input's first line.
 fn read_reference(rt: &LibcRuntime) -> Result<Month, AnyError> {
-    let mut input = rt.stdin();
     let mut line = [0u8; MONTH_LINE];
-    let mut filled = 0;
-    for _ in 0..MONTH_LINE {
-        if filled < MONTH_LINE {
-            filled += input.read(&mut line[filled..MONTH_LINE])?;
-        }
-    }
+    let filled = fill(rt, &mut line)?;
     match read_month(&line[0..filled]) {
         Some(month) => Ok(month),
         None => Err("reference month refused: the first line is not AAAAMM from 200001 to 209912".into()),
