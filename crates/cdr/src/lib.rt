@@ -53,7 +53,14 @@ fn read_fields(bytes: &[u8]) -> Result<CallRecord, Charged<RecordFault>>
     let Some(_) = read_decimal(&bytes[100..102], 2) else {
         return Err(malformed(10, 101, sequential));
     };
-    Ok(CallRecord { sequential, day, time, duration, point, descriptor })
+    Ok(CallRecord {
+        sequential,
+        day,
+        time,
+        duration,
+        point,
+        descriptor,
+    })
 }
 
 // Why a record with sound fields is refused, if it is: a test call, one not answered, one cut by the exchange, or

@@ -51,7 +51,7 @@ fill-more b z i r xs h =
 pub read-more : (b z n i : ℕ) (cs : List ℕ) (m : ℕ) → i < length cs → numberAfter b z n (drop i cs) ≡ m → numberAfter b z (n * b + (getD cs i 0 - z)) (drop (i + 1) cs) ≡ m
 read-more b z n i cs m h e =
     let s : numberAfter b z n (drop i cs) ≡ numberAfter b z (n * b + (getD cs i 0 - z)) (drop (i + 1) cs) =
-        at-drop-more (numberAfter b z n) cs i 0 h in
+    at-drop-more (numberAfter b z n) cs i 0 h in
     sym s ∙ e
 
 pub read-all : (b z n i : ℕ) (cs : List ℕ) (m : ℕ) → length cs ≤ i → numberAfter b z n (drop i cs) ≡ m → n ≡ m
@@ -64,16 +64,16 @@ isDigit b z c = leb z c && ltb c (z + b)
 pub test-more : (b z i : ℕ) (cs : List ℕ) (t : Bool) → i < length cs → areDigits b z (drop i cs) ≡ t → z ≤ getD cs i 0 → getD cs i 0 < z + b → areDigits b z (drop (i + 1) cs) ≡ t
 test-more b z i cs t h e low high =
     let s : areDigits b z (drop i cs) ≡ (isDigit b z (getD cs i 0) && areDigits b z (drop (i + 1) cs)) =
-        at-drop-more (areDigits b z) cs i 0 h in
+    at-drop-more (areDigits b z) cs i 0 h in
     let d : isDigit b z (getD cs i 0) ≡ true =
-        and-from (leb z (getD cs i 0)) (ltb (getD cs i 0) (z + b)) (le-leb z (getD cs i 0) low) (lt-ltb (getD cs i 0) (z + b) high) in
+    and-from (leb z (getD cs i 0)) (ltb (getD cs i 0) (z + b)) (le-leb z (getD cs i 0) low) (lt-ltb (getD cs i 0) (z + b) high) in
     let s2 : areDigits b z (drop i cs) ≡ (true && areDigits b z (drop (i + 1) cs)) = s ∙ ap (λ x. x && areDigits b z (drop (i + 1) cs)) d in
     sym s2 ∙ e
 
 pub test-stops : (b z i : ℕ) (cs : List ℕ) (t : Bool) → i < length cs → areDigits b z (drop i cs) ≡ t → (getD cs i 0 < z) ⊎ (z + b ≤ getD cs i 0) → t ≡ false
 test-stops b z i cs t h e o =
     let s : areDigits b z (drop i cs) ≡ (isDigit b z (getD cs i 0) && areDigits b z (drop (i + 1) cs)) =
-        at-drop-more (areDigits b z) cs i 0 h in
+    at-drop-more (areDigits b z) cs i 0 h in
     let d : isDigit b z (getD cs i 0) ≡ false = grind (arith, tells) in
     sym e ∙ (s ∙ ap (λ x. x && areDigits b z (drop (i + 1) cs)) d)
 
@@ -85,7 +85,7 @@ pub fill-less : (b z i r d : ℕ) (xs ys : List ℕ) → 0 < i → i ≤ length 
 fill-less b z i r d xs ys p h e s =
     let up : i - 1 + 1 ≡ i = omega arith in
     let m : places b z (i - 1) (r / b) ++ drop (i - 1) (set xs (i - 1) (z + r % b)) ≡ places b z (i - 1 + 1) r ++ drop (i - 1 + 1) xs =
-        fill-more b z (i - 1) r xs (omega arith) in
+    fill-more b z (i - 1) r xs (omega arith) in
     let m2 : places b z (i - 1) (r / b) ++ drop (i - 1) (set xs (i - 1) (z + r % b)) ≡ places b z i r ++ drop i xs = rw up at m in
     rw e (m2 ∙ s)
 
@@ -126,7 +126,7 @@ number-places b z zero n p h = omega (arith, pow-zero b)
 number-places b z (suc w) n p h =
     let less : n / b < b ^ w = div-lt-iff-lt-mul p .1 (rw pow-suc at h) in
     let step : numberAfter b z 0 (places b z w (n / b) ++ ((z + n % b) ∷ [])) ≡ numberAfter b z 0 (places b z w (n / b)) * b + ((z + n % b) - z) =
-        number-push b z 0 (places b z w (n / b)) (z + n % b) in
+    number-push b z 0 (places b z w (n / b)) (z + n % b) in
     let d : (z + n % b) - z ≡ n % b = omega arith in
     rw (step, number-places b z w (n / b) p less, d) (div-add-mod' n b)
 
@@ -142,7 +142,7 @@ places-number b z k n (c ∷ cs) p t =
     let e2 : (n * b + (c - z)) % b ≡ c - z = digits-mod n d in
     let e3 : z + (c - z) ≡ c = omega arith in
     let here : places b z (k + 1) (n * b + (c - z)) ≡ places b z k n ++ (c ∷ []) =
-        places-more b z k (n * b + (c - z)) ∙ rw (e1, e2, e3) in
+    places-more b z k (n * b + (c - z)) ∙ rw (e1, e2, e3) in
     let l : k + suc (length cs) ≡ (k + 1) + length cs = omega arith in
     rw l (places-number b z (k + 1) (n * b + (c - z)) cs p (q .1) ∙ (ap (λ ys. ys ++ cs) here ∙ append-assoc (places b z k n) (c ∷ []) cs))
 
@@ -180,12 +180,12 @@ pub numeral-of : (w : ℕ) (cs : List ℕ) (n : ℕ) → numeral w cs ≡ Some n
 numeral-of w cs n e =
     ⊎-elim
     (λ t.
-      let p = and-parts (eqb (length cs) w) (leb w 19) t in
-      (eqb-true (length cs) w (p .0), leb-true w 19 (p .1), sym (cond-true (eqb (length cs) w && leb w 19) (readDecimal cs) None t) ∙ e))
+    let p = and-parts (eqb (length cs) w) (leb w 19) t in
+    (eqb-true (length cs) w (p .0), leb-true w 19 (p .1), sym (cond-true (eqb (length cs) w && leb w 19) (readDecimal cs) None t) ∙ e))
     (λ t.
-      let s : None ≡ Some n = sym (cond-false (eqb (length cs) w && leb w 19) (readDecimal cs) None t) ∙ e in
-      let z : _≡_ {A = ℕ} 0 1 = cc in
-      absurd (omega arith))
+    let s : None ≡ Some n = sym (cond-false (eqb (length cs) w && leb w 19) (readDecimal cs) None t) ∙ e in
+    let z : _≡_ {A = ℕ} 0 1 = cc in
+    absurd (omega arith))
     (cases-bool (eqb (length cs) w && leb w 19))
 
 -- what reads is written back, over the text's own length
@@ -249,18 +249,18 @@ keeps b z n (x ∷ xs) (y ∷ ys) l s t =
     let lowx : z ≤ x = leb-true z x (and-parts (leb z x) (ltb x (z + b)) (p .0) .0) in
     let lowy : z ≤ y = leb-true z y (and-parts (leb z y) (ltb y (z + b)) (q .0) .0) in
     let rest : lexLess xs ys ≡ ltb (numberAfter b z (n * b + (x - z)) xs) (numberAfter b z (n * b + (x - z)) ys) =
-        keeps b z (n * b + (x - z)) xs ys (omega arith) (p .1) (q .1) in
+    keeps b z (n * b + (x - z)) xs ys (omega arith) (p .1) (q .1) in
     ⊎-elim
     (λ e. let r : (ltb x y || (eqb x y && lexLess xs ys)) ≡ lexLess xs ys = rw (le-ltb x y (omega arith), eq-eqb x y e) in
-          r ∙ subst (λ (v : ℕ). lexLess xs ys ≡ ltb (numberAfter b z (n * b + (x - z)) xs) (numberAfter b z (n * b + (v - z)) ys)) e rest)
+    r ∙ subst (λ (v : ℕ). lexLess xs ys ≡ ltb (numberAfter b z (n * b + (x - z)) xs) (numberAfter b z (n * b + (v - z)) ys)) e rest)
     (⊎-elim
-     (λ h. let r : (ltb x y || (eqb x y && lexLess xs ys)) ≡ true = rw (lt-ltb x y h) in
-           r ∙ sym (lt-ltb (numberAfter b z (n * b + (x - z)) xs) (numberAfter b z (n * b + (y - z)) ys)
-                    (lower-start b z (n * b + (x - z)) (n * b + (y - z)) xs ys (omega arith) (p .1) (q .1) (omega arith))))
-     (λ h. let r : (ltb x y || (eqb x y && lexLess xs ys)) ≡ false = rw (le-ltb x y (omega arith), ne-eqb x y (λ e. omega arith)) in
-           let g : numberAfter b z (n * b + (y - z)) ys < numberAfter b z (n * b + (x - z)) xs =
-               lower-start b z (n * b + (y - z)) (n * b + (x - z)) ys xs (omega arith) (q .1) (p .1) (omega arith) in
-           r ∙ sym (le-ltb (numberAfter b z (n * b + (x - z)) xs) (numberAfter b z (n * b + (y - z)) ys) (omega arith))))
+    (λ h. let r : (ltb x y || (eqb x y && lexLess xs ys)) ≡ true = rw (lt-ltb x y h) in
+    r ∙ sym (lt-ltb (numberAfter b z (n * b + (x - z)) xs) (numberAfter b z (n * b + (y - z)) ys)
+    (lower-start b z (n * b + (x - z)) (n * b + (y - z)) xs ys (omega arith) (p .1) (q .1) (omega arith))))
+    (λ h. let r : (ltb x y || (eqb x y && lexLess xs ys)) ≡ false = rw (le-ltb x y (omega arith), ne-eqb x y (λ e. omega arith)) in
+    let g : numberAfter b z (n * b + (y - z)) ys < numberAfter b z (n * b + (x - z)) xs =
+    lower-start b z (n * b + (y - z)) (n * b + (x - z)) ys xs (omega arith) (q .1) (p .1) (omega arith) in
+    r ∙ sym (le-ltb (numberAfter b z (n * b + (x - z)) xs) (numberAfter b z (n * b + (y - z)) ys) (omega arith))))
     (cases-order x y)
 
 pub keeps-order : Keeps-order

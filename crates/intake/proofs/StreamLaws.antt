@@ -19,11 +19,12 @@ module _ {S : Type 0} where
   pub push-holds : (s t : Intake S) (b : ℕ) (p : List ℕ) → length (s .held) ≡ longestKept → s .length ≤ longestKept → t .length ≡ s .length + 1 → (s .length < longestKept → t .held ≡ set (s .held) (s .length) b) → Holds s p → Holds t (p ++ (b ∷ []))
   push-holds s t b p full few more put h =
       let l : length (p ++ (b ∷ [])) ≡ length p + 1 = length-push p b in
-      let m : s .length ≡ length p = omega (arith, h .0) in
-      ( omega arith
-      , λ k. let st : t .held ≡ set (s .held) (length p) b = rw m at (put (omega arith)) in
-             let tk : take (length p + 1) (set (s .held) (length p) b) ≡ take (length p) (s .held) ++ (b ∷ []) = take-more-set (s .held) (length p) b (omega arith) in
-             rw (l, st, tk, h .1 (omega arith)))
+      let m : s .length ≡ length p = omega (arith, h .0) in (
+        omega arith,
+        λ k. let st : t .held ≡ set (s .held) (length p) b = rw m at (put (omega arith)) in
+            let tk : take (length p + 1) (set (s .held) (length p) b) ≡ take (length p) (s .held) ++ (b ∷ []) = take-more-set (s .held) (length p) b (omega arith) in
+            rw (l, st, tk, h .1 (omega arith)),
+      )
 
   -- a record past the longest stays so
   pub past-longest : (s : Intake S) (p bs : List ℕ) (i : ℕ) → longestKept < s .length → Holds s (p ++ take i bs) → Holds s (p ++ bs)
@@ -71,7 +72,7 @@ module _ {S : Type 0} (sinks : RecordSink.Ghosts S) where
       let a : (xs ++ ys) ++ (lineFeed ∷ []) ≡ all = append-assoc xs ys (lineFeed ∷ []) in
       let e : unendedRest all ≡ [] = ap unendedRest (sym a) ∙ rest-line (xs ++ ys) in
       let d : endedRecords all ≡ endedRecords xs ++ ((unendedRest xs ++ ys) ∷ []) =
-          ap endedRecords (sym a) ∙ (ended-line (xs ++ ys) ∙ rw (ended-on xs ys none, rest-on xs ys none)) in
+      ap endedRecords (sym a) ∙ (ended-line (xs ++ ys) ∙ rw (ended-on xs ys none, rest-on xs ys none)) in
       record {
         rest = subst (λ (p : List ℕ). Holds t p) (sym e) (r .0);
         taken = subst (λ (rs : List (List ℕ)). TakesAll sinks start rs (t .sink)) (sym d) (takes-push start (s .sink) (t .sink) (endedRecords xs) (unendedRest xs ++ ys) (fed .taken) (r .1));

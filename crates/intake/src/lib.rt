@@ -7,7 +7,6 @@ ghost use mathlib.Core.List.{List, [], _∷_, _++_};
 ghost use mathlib.Core.Path.{_≡_};
 ghost use Rattle.intake.specs.Records.{longestKept, recordsOf};
 ghost use Rattle.intake.specs.Stream.{Holds, Fed, TakesAll};
-
 use lines::line_length;
 use sink::LONGEST;
 use sink::RecordSink;
@@ -28,7 +27,11 @@ impl<S: RecordSink> Intake<S> {
         requires { ⌜ S·RecordSink .kept sink ⌝ }
         ensures { λ r. ⌜ Fed S·RecordSink sink [] r ⌝ }
     {
-        Intake { sink, held: [0; LONGEST], length: 0 }
+        Intake {
+            sink,
+            held: [0; LONGEST],
+            length: 0,
+        }
     }
 
     // Takes the next piece of the input.
@@ -57,7 +60,11 @@ impl<S: RecordSink> Intake<S> {
         ensures taken { λ r. ⌜ ((start : S) (xs : List ℕ) → Fed S·RecordSink start xs self → TakesAll S·RecordSink start (recordsOf xs) r) ⌝ }
     {
         self.end_rest();
-        let Intake { sink, held: _, length: _ } = self;
+        let Intake {
+            sink,
+            held: _,
+            length: _,
+        } = self;
         sink
     }
 

@@ -27,11 +27,18 @@ pub fn tenths_of(scenario: Scenario, duration: Duration) -> Option<Tenths>
         return None;
     }
     let billed = heard.max(scenario.least());
-    Some(Tenths { count: (billed + 5) / 6 })
+    Some(Tenths {
+        count: (billed + 5) / 6,
+    })
 }
 
 // The tariff and tenths of a call by a book, under these terms, for a reference month.
-pub fn rate<B: TariffBook>(book: &B, terms: Terms, reference: Month, call: &CallRecord) -> Result<Rated, RatingFault>
+pub fn rate<B: TariffBook>(
+    book: &B,
+    terms: Terms,
+    reference: Month,
+    call: &CallRecord,
+) -> Result<Rated, RatingFault>
     ensures { λ r. ⌜ r ≡ ratedBy (bookOf B·TariffBook (now (book .entry))) terms reference (now (call .entry)) ⌝ }
 {
     if !call.day.month().is_within(reference, terms.months_back()) {

@@ -12,8 +12,10 @@ use agreement::book::FileBookIsTariffBook;
 use agreement::faults::AgreementFault;
 use ledger::day::DayCell;
 use ledger::day::DayRow;
+use ledger::day::DayRowIsTableRow;
 use ledger::line::LineCell;
 use ledger::line::LineRow;
+use ledger::line::LineRowIsTableRow;
 use ledger::store::RowStore;
 use rating::book::TariffBook;
 use settlement::month::MONTH_LINE;
@@ -29,8 +31,6 @@ use stores::table::TableStore;
 use stores::table::TableStoreIsRowStore;
 use values::calendar::Month;
 use values::terms::Terms;
-use ledger::day::DayRowIsTableRow;
-use ledger::line::LineRowIsTableRow;
 
 // Rows of each store.
 const ROWS: usize = 500;
@@ -41,8 +41,23 @@ const FILE: usize = 64_629;
 // Bytes of input read at a time.
 const PIECE: usize = 65_536;
 
-const NO_LINE: LineCell = LineCell { month: 0, point: 0, descriptor: 0, tariff: 0, calls: 0, tenths: 0 };
-const NO_DAY: DayCell = DayCell { day: 0, point: 0, calls: 0, tenths: 0, earliest: 0, latest: 0 };
+const NO_LINE: LineCell = LineCell {
+    month: 0,
+    point: 0,
+    descriptor: 0,
+    tariff: 0,
+    calls: 0,
+    tenths: 0,
+};
+
+const NO_DAY: DayCell = DayCell {
+    day: 0,
+    point: 0,
+    calls: 0,
+    tenths: 0,
+    earliest: 0,
+    latest: 0,
+};
 
 // Why an agreement is refused, in words.
 fn reason(fault: AgreementFault) -> &'static str {
@@ -57,7 +72,10 @@ fn read_agreement(rt: &LibcRuntime) -> Result<Vec<u8>, AnyError> {
     match fs::read(rt, "agreement") {
         Ok(bytes) => Ok(bytes),
         Err(why) => {
-            let text = format!(rt.alloc(), "agreement refused: the file cannot be read: {why}")?;
+            let text = format!(
+                rt.alloc(),
+                "agreement refused: the file cannot be read: {why}"
+            )?;
             Err(text.into())
         }
     }
@@ -71,7 +89,10 @@ fn read_terms(rt: &LibcRuntime, bytes: &[u8]) -> Result<Terms, AnyError> {
             let part = fault.part();
             let row = fault.row();
             let why = reason(fault);
-            let text = format!(rt.alloc(), "agreement refused: {number}, part {part}, row {row} ({why})")?;
+            let text = format!(
+                rt.alloc(),
+                "agreement refused: {number}, part {part}, row {row} ({why})"
+            )?;
             Err(text.into())
         }
     }
@@ -96,7 +117,8 @@ fn read_reference(rt: &LibcRuntime) -> Result<Month, AnyError> {
     let filled = fill(rt, &mut line)?;
     match read_month(&line[0..filled]) {
         Some(month) => Ok(month),
-        None => Err("reference month refused: the first line is not AAAAMM from 200001 to 209912".into()),
+        None =>
+            Err("reference month refused: the first line is not AAAAMM from 200001 to 209912".into()),
     }
 }
 
@@ -141,7 +163,11 @@ fn print<L: RowStore<Row = LineRow>, D: RowStore<Row = DayRow>>(
 }
 
 // Settles the records on standard input over two stores and with a book.
-fn settle_records<L: RowStore<Row = LineRow> + Drop, D: RowStore<Row = DayRow> + Drop, B: TariffBook + Drop>(
+fn settle_records<
+    L: RowStore<Row = LineRow> + Drop,
+    D: RowStore<Row = DayRow> + Drop,
+    B: TariffBook + Drop,
+>(
     rt: &LibcRuntime,
     terms: Terms,
     reference: Month,

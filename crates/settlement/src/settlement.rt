@@ -8,6 +8,8 @@ ghost use Rattle.ledger.specs.Rows.{lineKeys, dayKeys};
 ghost use Rattle.rating.specs.Rating.{Book, bookOf};
 ghost use Rattle.statement.specs.Statement.{Model, model, Kept, opened};
 ghost use Rattle.settlement.specs.Settling.{Settling, takeAll};
+use crate::taker::Taker;
+use crate::taker::TakerIsRecordSink;
 use intake::Intake;
 use ledger::day::DayRow;
 use ledger::line::LineRow;
@@ -16,15 +18,17 @@ use rating::book::TariffBook;
 use statement::statement::Statement;
 use values::calendar::Month;
 use values::terms::Terms;
-use crate::taker::Taker;
-use crate::taker::TakerIsRecordSink;
 
 #[derive(Drop)]
 pub struct Settlement<L, D, B> {
     intake: Intake<Taker<L, D, B>>,
 }
 
-impl<L: RowStore<Row = LineRow>, D: RowStore<Row = DayRow>, B: TariffBook + Drop> Settlement<L, D, B> {
+impl<L: RowStore<Row = LineRow>, D: RowStore<Row = DayRow>, B: TariffBook + Drop> Settlement<
+    L,
+    D,
+    B,
+> {
     // Nothing read yet.
     pub fn open(terms: Terms, reference: Month, lines: L, days: D, book: B) -> Self
         requires lines { ⌜ StoreKept lineKeys (L·RowStore .ledger lines) (L·RowStore .kept lines) ⌝ }

@@ -16,7 +16,11 @@ pub struct Taker<L, D, B> {
     pub book: B,
 }
 
-pub impl<L: RowStore<Row = LineRow>, D: RowStore<Row = DayRow>, B: TariffBook> RecordSink for Taker<L, D, B> as TakerIsRecordSink {
+pub impl<L: RowStore<Row = LineRow>, D: RowStore<Row = DayRow>, B: TariffBook> RecordSink for Taker<
+    L,
+    D,
+    B,
+> as TakerIsRecordSink {
     ghost kept = { Keeps L·RowStore D·RowStore B·TariffBook };
 
     ghost takes = { Took L·RowStore D·RowStore B·TariffBook };

@@ -49,9 +49,10 @@ placed-no r false f e = refl
 
 -- a line that fits and a day that does not
 pub day-full : (m : Model) (l : LineRow) (d : DayRow) → takes lineKeys l (m .lines) ≡ true → takes dayKeys d (m .days) ≡ false → (placing m l d ≡ Err DaysFull) × (afterPlacing m l d ≡ m)
-day-full m l d p q =
-    ( ap (λ x. fitted x (takes dayKeys d (m .days))) p ∙ ap (fitted true) q
-    , cond-false (takes lineKeys l (m .lines) && takes dayKeys d (m .days)) (withRows m l d) m (and-right (takes lineKeys l (m .lines)) (takes dayKeys d (m .days)) q))
+day-full m l d p q = (
+  ap (λ x. fitted x (takes dayKeys d (m .days))) p ∙ ap (fitted true) q,
+  cond-false (takes lineKeys l (m .lines) && takes dayKeys d (m .days)) (withRows m l d) m (and-right (takes lineKeys l (m .lines)) (takes dayKeys d (m .days)) q),
+)
 
 fitted-yes : (a b : Bool) → fitted a b ≡ Ok tt → (a && b) ≡ true
 fitted-yes true true e = refl

@@ -5,7 +5,9 @@ ghost use Rattle.statement.specs.Board.{lesserOf, clearBoard, notedTally, note
 
 // The numbers 2 to 13.
 pub const NUMBERS: usize = 12;
+
 pub const LEAST_NUMBER: u8 = 2;
+
 pub const GREATEST_NUMBER: u8 = 13;
 
 // How many records a number refused, and the least sequential among them, 0 for none.

@@ -9,6 +9,16 @@ ghost use Rattle.ledger.specs.Rows.{lineKeys, dayKeys};
 ghost use Rattle.rating.specs.Rating.{bookOf};
 ghost use Rattle.statement.specs.Faults.{takeNumber};
 ghost use Rattle.statement.specs.Statement.{model, Kept, opened, placing, afterPlacing, verdict, withFound, withFault, takeAnswer, takeAfter};
+use crate::board::RefusalBoard;
+use crate::faults::StoreFault;
+use crate::faults::StoreFaultFromDay;
+use crate::faults::StoreFaultFromLine;
+use crate::faults::TakeFault;
+use crate::faults::TakeFaultFromRating;
+use crate::faults::TakeFaultFromRecord;
+use crate::faults::TakeFaultFromStore;
+use crate::posting::Booked;
+use crate::posting::Posting;
 use cdr::faults::charge_to;
 use ledger::day::DayRow;
 use ledger::day::DayRowIsRow;
@@ -20,16 +30,6 @@ use rating::book::TariffBook;
 use rating::rate;
 use values::calendar::Month;
 use values::terms::Terms;
-use crate::board::RefusalBoard;
-use crate::faults::StoreFault;
-use crate::faults::StoreFaultFromDay;
-use crate::faults::StoreFaultFromLine;
-use crate::faults::TakeFault;
-use crate::faults::TakeFaultFromRating;
-use crate::faults::TakeFaultFromRecord;
-use crate::faults::TakeFaultFromStore;
-use crate::posting::Booked;
-use crate::posting::Posting;
 
 // The most records that a statement takes.
 pub const MOST_TAKEN: u32 = 2_000_000;
@@ -86,7 +86,10 @@ impl<L: RowStore<Row = LineRow>, D: RowStore<Row = DayRow>> Statement<L, D> {
         ensures kept { λ _. ⌜ Kept L·RowStore D·RowStore (now (self .exit)) ⌝ }
     {
         let call = cdr::read(bytes)?;
-        let rated = charge_to(rate(book, self.terms, self.reference, &call), call.sequential)?;
+        let rated = charge_to(
+            rate(book, self.terms, self.reference, &call),
+            call.sequential,
+        )?;
         let posting = Posting::new(&call, rated);
         charge_to(self.place(posting.line(), posting.day()), call.sequential)?;
         Ok(posting)

@@ -33,9 +33,9 @@ bytes-read cs n e =
     ⊎-elim
     (λ t. let s : Some n ≡ Some (bigEndian cs) = e ∙ cond-true (leb (length cs) 16) (Some (bigEndian cs)) None t in cc)
     (λ t.
-      let s : Some n ≡ None = e ∙ cond-false (leb (length cs) 16) (Some (bigEndian cs)) None t in
-      let z : _≡_ {A = ℕ} 0 1 = cc in
-      absurd (omega arith))
+    let s : Some n ≡ None = e ∙ cond-false (leb (length cs) 16) (Some (bigEndian cs)) None t in
+    let z : _≡_ {A = ℕ} 0 1 = cc in
+    absurd (omega arith))
     (cases-bool (leb (length cs) 16))
 
 -- a text that is a label names the value of its number

@@ -18,7 +18,7 @@ loop-b-again c =
     let x = getD (c .args .bytes .now) (c .loop-b .b-index) 0 in
     let e : x - 0 ≡ x = omega arith in
     let s : numberAfter 256 0 (c .loop-b .n * 256 + (x - 0)) (drop (c .loop-b .b-index + 1) (c .args .bytes .now)) ≡ bigEndian (c .args .bytes .now) =
-        read-more 256 0 (c .loop-b .n) (c .loop-b .b-index) (c .args .bytes .now) (bigEndian (c .args .bytes .now)) (omega arith) (c .loop-b .inv .0) in
+    read-more 256 0 (c .loop-b .n) (c .loop-b .b-index) (c .args .bytes .now) (bigEndian (c .args .bytes .now)) (omega arith) (c .loop-b .inv .0) in
     (rw e at s, below-more 256 (c .loop-b .b-index) (c .loop-b .n) x (c .loop-b .inv .1) (omega arith))
 
 pub returns : need.returns

@@ -1,13 +1,13 @@
 // What a statement shows of itself.
 ghost use mathlib.Core.Path.{_≡_};
 ghost use Rattle.statement.specs.Statement.{model};
+use super::Statement;
+use crate::board::RefusalBoard;
 use ledger::day::DayRow;
 use ledger::line::LineRow;
 use ledger::store::RowStore;
 use values::calendar::Month;
 use values::terms::Terms;
-use super::Statement;
-use crate::board::RefusalBoard;
 
 impl<L: RowStore<Row = LineRow>, D: RowStore<Row = DayRow>> Statement<L, D> {
     pub fn terms(&self) -> Terms

@@ -2,12 +2,12 @@
 ghost use mathlib.Core.Path.{_≡_};
 ghost use Rattle.detraf.specs.File.{answerOf, afterOf};
 ghost use Rattle.statement.specs.Statement.{model, Kept};
+use super::Statement;
 use detraf::file::Short;
 use detraf::file::write_file;
 use ledger::day::DayRow;
 use ledger::line::LineRow;
 use ledger::store::RowStore;
-use super::Statement;
 
 impl<L: RowStore<Row = LineRow>, D: RowStore<Row = DayRow>> Statement<L, D> {
     // Writes the file into the buffer, which keeps what lies past it, and answers its length. A buffer that is too

@@ -19,13 +19,7 @@ fn days_in(month: u32) -> u32
     ensures { λ r. ⌜ r ≡ daysIn month ⌝ }
 {
     match month % 100 {
-        2 => {
-            if is_leap(month / 100) {
-                29
-            } else {
-                28
-            }
-        }
+        2 => { if is_leap(month / 100) { 29 } else { 28 } }
         4 | 6 | 9 | 11 => 30,
         _ => 31,
     }

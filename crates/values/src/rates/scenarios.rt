@@ -8,7 +8,11 @@ impl Scenario {
         ensures { λ r. ⌜ r ≡ scenarioOf minimum message least ⌝ }
     {
         if minimum <= 999 && message <= 999 && least <= 999 {
-            Some(Scenario { minimum, message, least })
+            Some(Scenario {
+                minimum,
+                message,
+                least,
+            })
         } else {
             None
         }

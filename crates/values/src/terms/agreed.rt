@@ -29,7 +29,12 @@ impl Terms {
         ensures { λ r. ⌜ r ≡ termsOf creditor debtor back rates ⌝ }
     {
         if back <= 2 {
-            Some(Terms { creditor, debtor, back, rates })
+            Some(Terms {
+                creditor,
+                debtor,
+                back,
+                rates,
+            })
         } else {
             None
         }

@@ -15,18 +15,20 @@ returns g c =
           record {
             kept = subst (λ (u : g .S .Denot). g .S·RecordSink .kept u) (sym e) (w .take .ensures .kept);
             taken = λ p h.
-                let whole = held-is s p (w .if-self-le-LONGEST .taken) h in
-                ( nothing-held
-                , subst (λ (u : g .S .Denot). g .S·RecordSink .takes (s .sink) p u) (sym e)
-                  (subst (λ (ys : List ℕ). g .S·RecordSink .takes (s .sink) ys (w .take .last .self)) whole (w .take .ensures .takes)));
+                let whole = held-is s p (w .if-self-le-LONGEST .taken) h in (
+                  nothing-held,
+                  subst (λ (u : g .S .Denot). g .S·RecordSink .takes (s .sink) p u) (sym e)
+                      (subst (λ (ys : List ℕ). g .S·RecordSink .takes (s .sink) ys (w .take .last .self)) whole (w .take .ensures .takes)),
+                );
           }
       | else-self-le-LONGEST w ↦
           let e : c .if-self-le-LONGEST .self .sink ≡ w .take-overlong .last .self = ap (λ t. t .sink) (w .self-is) in
           record {
             kept = subst (λ (u : g .S .Denot). g .S·RecordSink .kept u) (sym e) (w .take-overlong .ensures .kept);
-            taken = λ p h.
-                ( nothing-held
-                , subst (λ (u : g .S .Denot). g .S·RecordSink .takes (s .sink) p u) (sym e)
-                  (w .take-overlong .ensures .takes p (omega (arith, h .0, w .if-self-le-LONGEST .left))));
+            taken = λ p h. (
+              nothing-held,
+              subst (λ (u : g .S .Denot). g .S·RecordSink .takes (s .sink) p u) (sym e)
+                  (w .take-overlong .ensures .takes p (omega (arith, h .0, w .if-self-le-LONGEST .left))),
+            );
           }
     ]

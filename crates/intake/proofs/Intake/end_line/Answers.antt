@@ -8,9 +8,10 @@ pub returns-then-self-eq0 : need.returns-then-self-eq0
 returns-then-self-eq0 g c = record {
   kept = c .take .ensures .kept;
   taken = λ p h.
-      let e : p ≡ [] = none-held (c .args .self .now) p (c .if-self-eq0 .taken) h in
-      ( (c .if-self-eq0 .taken, nothing-held .1)
-      , subst (λ (ys : List ℕ). g .S·RecordSink .takes (c .args .self .now .sink) (ys ++ c .args .bytes .now) (c .take .last .self)) (sym e) (c .take .ensures .takes));
+      let e : p ≡ [] = none-held (c .args .self .now) p (c .if-self-eq0 .taken) h in (
+        (c .if-self-eq0 .taken, nothing-held .1),
+        subst (λ (ys : List ℕ). g .S·RecordSink .takes (c .args .self .now .sink) (ys ++ c .args .bytes .now) (c .take .last .self)) (sym e) (c .take .ensures .takes),
+      );
 }
 
 pub returns-else-self-eq0 : need.returns-else-self-eq0

@@ -24,8 +24,8 @@ returns-then-n-rest g c =
       kept = subst (λ (s : g .S .Denot). g .S·RecordSink .kept s) (sym (c .hold .ensures .same)) (c .loop-at .inv .1);
       fed = λ start fore fed.
           let h = subst (λ (ys : List ℕ). Fed (g .S·RecordSink) start ys (c .hold .last .self)) (append-assoc fore (take at xs) d)
-                (fed-on (g .S·RecordSink) start (fore ++ take at xs) d (c .loop-at .self) (c .hold .last .self) none (c .hold .ensures .same)
-                 (rw whole at (c .hold .ensures .held)) (c .loop-at .inv .2 start fore fed)) in
+          (fed-on (g .S·RecordSink) start (fore ++ take at xs) d (c .loop-at .self) (c .hold .last .self) none (c .hold .ensures .same)
+          (rw whole at (c .hold .ensures .held)) (c .loop-at .inv .2 start fore fed)) in
           subst (λ (ys : List ℕ). Fed (g .S·RecordSink) start (fore ++ ys) (c .hold .last .self)) (take-append-drop at xs) h;
     }
 
@@ -42,12 +42,15 @@ loop-at-again g c =
     let n-less : n < length d = omega arith in
     let l : length d ≡ length xs - at = length-drop at xs in
     let none : hasEnd (take n d) ≡ false = ap (λ k. hasEnd (take k d)) n-is ∙ none-before d in
-    let line = take-line xs at n n-is n-less in
-    (omega arith, c .end-line .ensures .kept, λ start fore fed.
-        let h = subst (λ (ys : List ℕ). Fed (g .S·RecordSink) start ys (c .end-line .last .self)) (append-assoc fore (take at xs) (take n d ++ (lineFeed ∷ [])))
-              (fed-line (g .S·RecordSink) start (fore ++ take at xs) (take n d) (c .loop-at .self) (c .end-line .last .self) none (c .end-line .ensures .kept)
-               (rw whole at (c .end-line .ensures .taken)) (c .loop-at .inv .2 start fore fed)) in
-        subst (λ (ys : List ℕ). Fed (g .S·RecordSink) start (fore ++ ys) (c .end-line .last .self)) (sym line) h)
+    let line = take-line xs at n n-is n-less in (
+      omega arith,
+      c .end-line .ensures .kept,
+      λ start fore fed.
+          let h = subst (λ (ys : List ℕ). Fed (g .S·RecordSink) start ys (c .end-line .last .self)) (append-assoc fore (take at xs) (take n d ++ (lineFeed ∷ [])))
+          (fed-line (g .S·RecordSink) start (fore ++ take at xs) (take n d) (c .loop-at .self) (c .end-line .last .self) none (c .end-line .ensures .kept)
+          (rw whole at (c .end-line .ensures .taken)) (c .loop-at .inv .2 start fore fed)) in
+          subst (λ (ys : List ℕ). Fed (g .S·RecordSink) start (fore ++ ys) (c .end-line .last .self)) (sym line) h,
+    )
 
 pub returns : need.returns
 returns g c =

@@ -8,10 +8,12 @@ use Rattle.intake.proofs.StreamLaws.{push-more, past-longest}
 use Rattle.intake.proofs.Intake.hold.Needs as need
 
 pub loop-b-again : need.loop-b-again
-loop-b-again g c =
-    (c .push .ensures .same ∙ c .loop-b .inv .0, λ p h.
-        subst (λ (ys : List ℕ). Holds (c .push .last .self) ys) (push-more p (c .args .bytes .now) (c .loop-b .b-index) (c .loop-b-test .taken))
-        (c .push .ensures .held (p ++ take (c .loop-b .b-index) (c .args .bytes .now)) (c .loop-b .inv .1 p h)))
+loop-b-again g c = (
+  c .push .ensures .same ∙ c .loop-b .inv .0,
+  λ p h.
+      subst (λ (ys : List ℕ). Holds (c .push .last .self) ys) (push-more p (c .args .bytes .now) (c .loop-b .b-index) (c .loop-b-test .taken))
+      (c .push .ensures .held (p ++ take (c .loop-b .b-index) (c .args .bytes .now)) (c .loop-b .inv .1 p h)),
+)
 
 pub returns-then-self-gt-LONGEST : need.returns-then-self-gt-LONGEST
 returns-then-self-gt-LONGEST g c = record {

@@ -10,7 +10,7 @@ pub returns : need.returns
 returns g c = record {
   kept = c .finish-statement .ensures .kept;
   settled = λ start b xs h.
-    taken-all (g .L·RowStore) (g .D·RowStore) (g .B·TariffBook) (h .first) (recordsOf xs) (c .finish-statement .result) (c .finish-statement .ensures .taken (h .first) xs (h .fed))
-    ∙ ap (λ k. takeAll k (model (g .L·RowStore) (g .D·RowStore) (h .first .statement)) (recordsOf xs)) (h .handed)
-    ∙ ap (λ m. takeAll b m (recordsOf xs)) (h .began);
+      taken-all (g .L·RowStore) (g .D·RowStore) (g .B·TariffBook) (h .first) (recordsOf xs) (c .finish-statement .result) (c .finish-statement .ensures .taken (h .first) xs (h .fed))
+      ∙ ap (λ k. takeAll k (model (g .L·RowStore) (g .D·RowStore) (h .first .statement)) (recordsOf xs)) (h .handed)
+      ∙ ap (λ m. takeAll b m (recordsOf xs)) (h .began);
 }

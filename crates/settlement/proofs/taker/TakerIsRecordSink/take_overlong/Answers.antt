@@ -11,5 +11,7 @@ returns g c = record {
   kept = c .take .ensures .kept;
   takes = λ bs long. (
     c .take .ensures .after
-    ∙ lengths-alike (model (g .L·RowStore) (g .D·RowStore) (c .args .self .now .statement)) (bookOf (g .B·TariffBook) (c .args .self .now .book)) [] bs (λ e. omega arith) (λ e. omega arith), refl);
+        ∙ lengths-alike (model (g .L·RowStore) (g .D·RowStore) (c .args .self .now .statement)) (bookOf (g .B·TariffBook) (c .args .self .now .book)) [] bs (λ e. omega arith) (λ e. omega arith),
+    refl,
+  );
 }

@@ -15,9 +15,11 @@ cast-number c =
     omega arith
 
 pub ghost-result : need.ghost-result
-ghost-result c =
-    (ap isDescriptorNumber (bytes-read _ _ (c .in-Continue-number .ensures tt .value))
-     ∙ label-number 5 isDescriptor _ (λ cs. refl) (c .args .bytes .now) (λ i. omega (arith, c .typed .bytes i)) (sym (c .if-not-is-descriptor .ensures tt)), tt)
+ghost-result c = (
+  ap isDescriptorNumber (bytes-read _ _ (c .in-Continue-number .ensures tt .value))
+      ∙ label-number 5 isDescriptor _ (λ cs. refl) (c .args .bytes .now) (λ i. omega (arith, c .typed .bytes i)) (sym (c .if-not-is-descriptor .ensures tt)),
+  tt,
+)
 
 pub returns : need.returns
 returns c =

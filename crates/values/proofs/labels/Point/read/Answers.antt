@@ -9,9 +9,11 @@ use Rattle.values.proofs.labels.Point.read.Needs as need
 
 pub ghost-result : need.ghost-result
 ghost-result c =
-    let e : c .in-Continue-number .number ≡ bigEndian (c .args .bytes .now) = bytes-read _ _ (c .in-Continue-number .ensures tt .value) in
-    (ap isPointNumber e
-     ∙ label-number 10 isPoint _ (λ cs. refl) (c .args .bytes .now) (λ i. omega (arith, c .typed .bytes i)) (sym (c .if-not-is-point .ensures tt)), tt)
+    let e : c .in-Continue-number .number ≡ bigEndian (c .args .bytes .now) = bytes-read _ _ (c .in-Continue-number .ensures tt .value) in (
+      ap isPointNumber e
+          ∙ label-number 10 isPoint _ (λ cs. refl) (c .args .bytes .now) (λ i. omega (arith, c .typed .bytes i)) (sym (c .if-not-is-point .ensures tt)),
+      tt,
+    )
 
 pub returns : need.returns
 returns c =
