@@ -8,7 +8,7 @@ use native.Mathlib.Omega.{arith}
 use lib.Dec.{leb, ltb, eqb}
 use lib.ListN.{length, getD, take, drop}
 use Rattle.std.proofs.shelf.Lists.{drop-more, drop-all, take-append-drop, length-drop}
-use Rattle.std.proofs.shelf.Tests.{lt-ltb, le-ltb, eq-eqb, ne-eqb, or-left, or-from, and-left, and-parts, and-from, leb-true, ltb-true, cases-lt, cases-order}
+use Rattle.std.proofs.shelf.Tests.{lt-ltb, le-ltb, eq-eqb, ne-eqb, or-left, or-from, and-left, and-parts, and-from, leb-true, cases-lt, cases-order}
 use Rattle.digits.specs.Positional.{lexLess, numberAfter, areDigits, bigEndian}
 use Rattle.digits.proofs.Positional.{lower-start}
 

@@ -1,6 +1,6 @@
 -- The row of a descriptor, found by the search and told of all rows.
 use mathlib.Core.Path.{_≡_, refl, sym, ap, subst, _∙_}
-use mathlib.Core.Bool.{Bool, true, false, cond}
+use mathlib.Core.Bool.{true, false}
 use mathlib.Core.List.{List, [], _∷_}
 use Prim.Native.Nat.{ℕ, zero, suc, _/_, _^_, _<_, _≤_}
 use native.Mathlib.Omega.{arith}
@@ -9,7 +9,7 @@ use lib.ListN.{length, getD, take}
 use Rattle.std.proofs.shelf.Lists.{take-all}
 use Rattle.std.proofs.shelf.Tests.{and-parts, ltb-true, cond-true, cond-false, eq-eqb, ne-eqb}
 use Rattle.std.specs.Holes.{between}
-use Rattle.std.specs.declared.option.Option.the-variants.{None, Some}
+use Rattle.std.specs.declared.option.Option.the-variants.{None}
 use Rattle.digits.specs.Positional.{areDigits, bigEndian, bytesOf}
 use Rattle.digits.proofs.Positional.{number-places, length-places}
 use Rattle.values.specs.Labels.{isDescriptor}

@@ -1,5 +1,5 @@
 -- Ordered search among keys that rise.
-use mathlib.Core.Path.{_≡_, refl, sym, ap, subst, _∙_}
+use mathlib.Core.Path.{_≡_, sym, ap, subst, _∙_}
 use mathlib.Core.Bool.{true, false}
 use mathlib.Core.Logic.{⊎-elim}
 use mathlib.Core.List.{List}
@@ -11,7 +11,7 @@ use lib.ListN.{length, take}
 use Rattle.std.proofs.shelf.Tests.{ltb-true, ltb-false, cases-lt}
 use Rattle.std.proofs.shelf.Lists.{length-take-le, take-take}
 use Rattle.digits.specs.Positional.{bigEndian, areDigits}
-use Rattle.agreement.specs.Searches.{keyAt, Rises, Split, Last, Found}
+use Rattle.agreement.specs.Searches.{keyAt, Rises, Split, Last}
 use Rattle.agreement.specs.Tables.{rowAt}
 use Rattle.agreement.proofs.ByteOrder.{digits-take, front-order}
 use Rattle.agreement.proofs.RowLaws.{row-length, row-bytes}

@@ -9,7 +9,7 @@ use lib.Dec.{leb, ltb, eqb}
 use lib.ListN.{length, getD, take, drop}
 use lib.Seq.{take-add}
 use Rattle.std.proofs.shelf.Lists.{length-append, length-drop, length-take-le, take-at, drop-at}
-use Rattle.std.proofs.shelf.Tests.{and-parts, and-from, and-left, and-right, cases-bool, cases-lt, cases-eq, ltb-true, leb-true, eqb-true, cond-true, cond-false, eq-eqb, ne-eqb, le-leb, lt-leb, lt-ltb, le-ltb, both-ways}
+use Rattle.std.proofs.shelf.Tests.{and-parts, and-from, cases-bool, cases-lt, cases-eq, ltb-true, leb-true, eqb-true, cond-true, cond-false, eq-eqb, le-leb, lt-ltb, le-ltb}
 use Rattle.std.specs.Holes.{between}
 use Rattle.std.specs.Options.{isSome}
 use Rattle.std.specs.declared.option.Option.{Option}
@@ -23,7 +23,7 @@ use Rattle.values.specs.declared.calendar.Day.{Day}
 use Rattle.values.specs.declared.labels.Descriptor.{Descriptor}
 use Rattle.values.specs.declared.labels.Point.{Point}
 use Rattle.agreement.specs.declared.parts.Part.the-variants.{Tariffs}
-use Rattle.agreement.specs.Books.{firstDay, begun, laterOf, latest, tariffAmong, tariffTable}
+use Rattle.agreement.specs.Books.{firstDay, begun, laterOf, latest, tariffTable}
 use Rattle.agreement.specs.Searches.{keyAt, Rises, Last, tariffKey}
 use Rattle.agreement.specs.Sound.{isSound}
 use Rattle.agreement.specs.Tables.{rowsIn, rowAt}

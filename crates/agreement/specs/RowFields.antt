@@ -9,7 +9,6 @@ use Rattle.digits.specs.Positional.{numeral}
 use Rattle.values.specs.Checked.{andThen, numbered}
 use Rattle.values.specs.Values.{carrierOf, ratesOf, termsOf, scenarioOf, descriptorIn, pointIn, dayIn, tariffIn}
 use Rattle.values.specs.declared.rates.Scenario.{Scenario}
-use Rattle.values.specs.declared.rates.Tariff.{Tariff}
 use Rattle.values.specs.declared.rates.TaxRates.{TaxRates}
 use Rattle.values.specs.declared.terms.Carrier.{Carrier}
 use Rattle.values.specs.declared.terms.Terms.{Terms}

@@ -1,7 +1,6 @@
 // Ordered search among rows.
 ghost use Prim.Native.Nat.{_/_, _<_, _≤_};
 ghost use lib.ListN.{length, take};
-ghost use mathlib.Core.Path.{_≡_};
 ghost use Rattle.digits.specs.Positional.{bigEndian};
 ghost use Rattle.agreement.specs.Searches.{keyAt, Rises, Split, Found};
 use crate::bytes::is_below;

@@ -1,4 +1,3 @@
-use mathlib.Core.Path.{_∙_}
 use Rattle.agreement.specs.Parts.{rowWidth}
 use Rattle.agreement.specs.RowFields.{isRow}
 use Rattle.agreement.specs.Tables.{rowsIn}

@@ -1,7 +1,6 @@
-use mathlib.Core.Path.{_≡_, refl, ap, _∙_}
-use Prim.Native.Nat.{_+_, _-_, _/_}
+use mathlib.Core.Path.{refl, _∙_}
+use Prim.Native.Nat.{_-_, _/_}
 use native.Mathlib.Omega.{arith}
-use lib.Dec.{ltb}
 use lib.ListN.{length}
 use Rattle.agreement.specs.Tables.{rowsOf}
 use Rattle.agreement.proofs.RowLaws.{row-fits, rows-in, rows-out, keys-here, rising-start, rises, stays, all-rise, rising-by-part}
