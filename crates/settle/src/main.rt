@@ -155,9 +155,7 @@ fn print<L: RowStore<Row = LineRow>, D: RowStore<Row = DayRow>>(
     };
     let refused = refusal_lines(rt.alloc(), &statement.board())?;
     let mut out = rt.stdout();
-    if length <= file.len() {
-        out.write_all(&file[0..length])?;
-    }
+    out.write_all(&file[0..length])?;
     out.write_all(&refused)?;
     Ok(())
 }
