@@ -16,12 +16,12 @@ pub written-fits : (rows : List LineRow) (out : List ℕ) (n : ℕ) → Ok n ≡
 written-fits rows out n e =
     ⊎-elim
     (λ t.
-      let s : _≡_ {A = Result ℕ Short} (Ok n) (Ok (fileLength rows)) = e ∙ cond-true (fileFits rows out) _ _ t in
-      let q : n ≡ fileLength rows = cc in
-      let f = leb-true (fileLength rows) (length out) t in
-      omega arith)
+    let s : _≡_ {A = Result ℕ Short} (Ok n) (Ok (fileLength rows)) = e ∙ cond-true (fileFits rows out) _ _ t in
+    let q : n ≡ fileLength rows = cc in
+    let f = leb-true (fileLength rows) (length out) t in
+    omega arith)
     (λ t.
-      let s : _≡_ {A = Result ℕ Short} (Ok n) (Err (record { needed = fileLength rows })) = e ∙ cond-false (fileFits rows out) _ _ t in
-      let z : _≡_ {A = ℕ} 0 1 = cc in
-      absurd (omega arith))
+    let s : _≡_ {A = Result ℕ Short} (Ok n) (Err (record { needed = fileLength rows })) = e ∙ cond-false (fileFits rows out) _ _ t in
+    let z : _≡_ {A = ℕ} 0 1 = cc in
+    absurd (omega arith))
     (cases-bool (fileFits rows out))

@@ -1,0 +1,5 @@
+pub mod Books
+pub mod Faults
+pub mod Items
+pub mod Layers
+pub mod Lists
