@@ -1,5 +1,7 @@
 // The DETRAF file of a statement, with the theorem of whole runs: what holds of every statement that takes and joins
 // lead to, in terms of its account.
+#![tactic(auto)]
+
 ghost use Rattle.std.specs.Prelude.{◌≡◌};
 ghost use Rattle.detraf.specs.File.{answer_of, after_of};
 ghost use Rattle.statement.specs.Statement.{model, Kept};

@@ -1,4 +1,6 @@
 // The agreement file between two carriers: its terms, and the tariff book that it holds.
+#![tactic(auto)]
+
 mod bodies;
 pub mod book;
 mod bytes;

@@ -1,5 +1,5 @@
 -- The tables of the flat book, and those of a book below a correlation layer.
-use Rattle.std.specs.Prelude.{List, Some, None, Option}
+use Rattle.std.specs.Prelude.{ℕ, List, Some, None, Option}
 use Rattle.values.specs.Checked.{and_then}
 use Rattle.values.specs.declared.labels.Descriptor.{Descriptor}
 use Rattle.values.specs.declared.labels.Point.{Point}
@@ -7,19 +7,23 @@ use Rattle.values.specs.declared.rates.Scenario.{Scenario}
 use Rattle.values.specs.declared.rates.Tariff.{Tariff}
 use Rattle.rating.specs.Rating.{Book}
 use Rattle.books.specs.declared.correlation.Correlation.{Correlation}
-use Rattle.books.specs.declared.entries.Entry.{Entry}
+use Rattle.books.specs.declared.correlation.Pair.{Pair}
+use Rattle.books.specs.declared.flat.Entry.{Entry}
 use Rattle.books.specs.declared.flat.FlatBook.{FlatBook}
-use Rattle.books.specs.declared.pairs.Pair.{Pair}
-use Rattle.books.specs.Cells.{descriptor_key, entry_in, first_key, pair_in}
-use Rattle.books.specs.Items.{items_in}
-use Rattle.books.specs.Lists.{with_key}
+use Rattle.books.specs.Lists.{items_of, with_key}
 
 -- The flat book: what it lists, and each entry by its descriptor.
 abbrev pub entries_of : FlatBook → List Entry
-entries_of b = items_in entry_in b.entries.len b.entries.cells
+entries_of b = items_of b.entries
 
 abbrev pub entry_of : Descriptor → Scenario → Tariff → Entry
 entry_of d s t = record { descriptor = d; scenario = s; tariff = t }
+
+abbrev pub descriptor_key : Entry → ℕ
+descriptor_key e = e.descriptor.number
+
+abbrev pub most_descriptors : ℕ
+most_descriptors = 16
 
 -- the entry of a descriptor, if it is listed
 abbrev pub listed_entry : Descriptor → List Entry → Option Entry
@@ -34,10 +38,16 @@ flat_tables es = record {
 
 -- The correlation layer: its pairs, each by its first point.
 abbrev pub pairs_of : {B : Type 0} → Correlation B → List Pair
-pairs_of c = items_in pair_in c.pairs.len c.pairs.cells
+pairs_of c = items_of c.pairs
 
 abbrev pub pair_of : Point → Point → Pair
 pair_of p q = record { first = p; second = q }
+
+abbrev pub first_key : Pair → ℕ
+first_key pair = pair.first.number
+
+abbrev pub most_pairs : ℕ
+most_pairs = 64
 
 abbrev pub second_or : Point → Option Pair → Point
 second_or p None = p

@@ -3,7 +3,7 @@ use Rattle.std.specs.Prelude.{◌≡◌, Bool, true, ◌&&◌, List, [], ◌∷�
 use Rattle.digits.specs.Positional.{big_endian, places}
 use Rattle.values.specs.Labels.{is_point_number}
 use Rattle.values.specs.declared.labels.Point.{Point}
-use Rattle.books.specs.declared.pairs.Pair.{Pair}
+use Rattle.books.specs.declared.correlation.Pair.{Pair}
 use Rattle.books.specs.Books.{pair_of, asked_as}
 
 -- three points

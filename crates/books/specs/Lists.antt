@@ -1,7 +1,18 @@
 -- Lists of items with keys: the item of a key, and adding one.
-use Rattle.std.specs.Prelude.{◌≡◌, ℕ, Bool, cond, List, [], ◌∷◌, ◌++◌, length, is_some, Some, None, Ok, Err, Option, Result, ◌==◌, nat_lt}
+use Rattle.std.specs.Prelude.{◌≡◌, ℕ, Bool, false, cond, List, [], ◌∷◌, ◌++◌, length, is_some, Some, None, Ok, Err, Option, Result, ◌==◌, nat_lt}
 use Rattle.books.specs.declared.faults.ListFault.{ListFault}
 use Rattle.books.specs.declared.faults.ListFault.TheVariants.{Listed, Full}
+use Rattle.books.specs.declared.fixed_list.FixedList.{FixedList}
+use Rattle.books.specs.Items.{items_in}
+
+-- the items of a list, in the order in which they were added
+abbrev pub items_of : {T : Type 0} {n : ℕ} → FixedList T n → List T
+items_of l = items_in l.len l.slots.cells
+
+-- whether a cell holds an item with this key
+abbrev pub has_key : {T : Type 0} → (T → ℕ) → ℕ → Option T → Bool
+has_key key_of k None = false
+has_key key_of k (Some x) = key_of x == k
 
 -- the item with this key
 abbrev pub with_key : {T : Type 0} → (T → ℕ) → ℕ → List T → Option T

@@ -1,9 +1,9 @@
 // Tariff books that are listed by hand, and a layer over any book.
+#![tactic(auto)]
+
 pub mod correlation;
-mod entries;
 pub mod faults;
 mod fixed_list;
 pub mod flat;
+mod keyed;
 pub mod layers;
-mod listed;
-mod pairs;

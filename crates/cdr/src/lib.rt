@@ -1,4 +1,6 @@
 // The reader of call records.
+#![tactic(auto)]
+
 pub mod call;
 pub mod faults;
 

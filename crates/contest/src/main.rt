@@ -1,6 +1,8 @@
 // Contests a declared DETRAF file. It reads the file `agreement` in the current folder, the declared file that its
 // argument names and, on standard input, the reference month and our records, and prints for each line and each month
 // what is wrong with it.
+#![tactic(auto)]
+
 mod report;
 
 ghost use Rattle.std.specs.Prelude.{◌≡◌};

@@ -1,5 +1,7 @@
 // Contests DETRAF files and prints the verdicts and the months, or the refusal. Reads the files `agreement` and `records`
 // (the reference month's line and our records) and, on standard input, the declared files, each followed by an empty line.
+#![tactic(auto)]
+
 ghost use Rattle.std.specs.Prelude.{◌≡◌};
 ghost use Rattle.ledger.specs.Ledger.{Kept as StoreKept};
 ghost use Rattle.ledger.specs.Rows.{line_keys, day_keys};

@@ -1,6 +1,8 @@
 // Settles the same records in order, reversed, and dealt out over two and over three units on different stores and
 // joined, and says that all keep the same, or what differs first. Reads the file `agreement` in the current folder and,
 // on standard input, the reference month and the records.
+#![tactic(auto)]
+
 mod compare;
 mod dealing;
 mod records;

@@ -1,4 +1,6 @@
 // What the programs share: reading the agreement, the reference month and the records, and telling why a file is refused.
+#![tactic(auto)]
+
 pub mod agreements;
 pub mod input;
 pub mod refusals;

@@ -1,4 +1,6 @@
 // The amounts of a line, and the writer of the DETRAF file.
+#![tactic(auto)]
+
 pub mod amounts;
 mod field;
 pub mod file;

@@ -1,4 +1,6 @@
 // Numbers of a fixed width: decimal digits, and big-endian bytes.
+#![tactic(auto)]
+
 ghost use Rattle.std.specs.Prelude.{◌≡◌, ◌^◌, ◌<◌, ◌≤◌, length, IfSome};
 ghost use Rattle.digits.specs.Positional.{numeral, read_decimal, write_decimal, big_endian, read_bytes, bytes_of, ReadsBack, WritesBack, KeepsOrder};
 

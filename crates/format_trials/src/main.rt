@@ -1,6 +1,8 @@
 // Opens agreements, images and DETRAF files and prints what is answered. Each line of standard input is a format
 // (agreement, line, day or detraf), a blank, and a case: `= HEX` is these bytes, which later lines refer to; `AT HEX` is
 // the last such bytes with others in their place, from AT on.
+#![tactic(auto)]
+
 mod agreements;
 mod detraf_files;
 mod hex;

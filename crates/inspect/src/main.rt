@@ -1,5 +1,7 @@
 // Reads a DETRAF file, the one that its argument names or standard input, and prints it for a person to read, or says
 // why it is refused.
+#![tactic(auto)]
+
 mod amounts;
 
 use amounts::{print_amounts, print_rate};

@@ -1,4 +1,6 @@
 // Input cut into records, in fixed memory, for any sink. The input comes in pieces, and a line feed ends a record.
+#![tactic(auto)]
+
 pub mod lines;
 pub mod sink;
 

@@ -1,4 +1,6 @@
 // The rows of one store put into another.
+#![tactic(auto)]
+
 ghost use Rattle.std.specs.Prelude.{◌≡◌, [], length, if◌then◌else◌};
 ghost use Rattle.ledger.specs.Ledger.{Kept, holds, with_rows};
 ghost use Rattle.merging.specs.Merges.{merge_rows, poured, Orderless};

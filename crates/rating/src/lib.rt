@@ -1,4 +1,6 @@
 // Rating of calls.
+#![tactic(auto)]
+
 pub mod book;
 pub mod faults;
 pub mod tenths;

@@ -1,5 +1,7 @@
 // Settles one month. It reads the file `agreement` in the current folder and, on standard input, the reference month
 // and the call records, and prints the DETRAF file and what was refused. An argument says which stores keep the rows.
+#![tactic(auto)]
+
 mod piles;
 
 ghost use Rattle.std.specs.Prelude.{◌≡◌};

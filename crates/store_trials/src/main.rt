@@ -1,5 +1,7 @@
 // Settles the same records over each kind of store, piles of them too, and compares the files, lines, days and
 // refusals. Reads the file `agreement` and, on standard input, the reference month and the records.
+#![tactic(auto)]
+
 mod piles;
 mod summary;
 

@@ -3,7 +3,7 @@ use Rattle.std.proofs.Common.{◌≡◌, ℕ, zero, suc, ◌+◌, ◌<◌, ◌�
 use lib.Seq.{take-set-lt}
 use Rattle.std.specs.List.{slice_get}
 use Rattle.std.specs.Option.{option_map}
-use Rattle.std.proofs.lemmas.List.{length-take-le, length-map, map-set, map_append, take-map, drop-map}
+use Rattle.std.proofs.lemmas.List.{length-take-le, length-map, map-set, map-append, take-map, drop-map}
 use Rattle.std.proofs.lemmas.Option.{slice_get_read}
 use Rattle.ledger.specs.Keys.{KeyOps, OrderLaws}
 use Rattle.ledger.specs.Ledger.{Rising, find_row, put_row, holds, position, place}
@@ -90,6 +90,6 @@ module _ {K C R : Type 0} (o : KeyOps K R) (of : C → Option R) (cell : R → C
         ∙ ap (λ v. take i v ++ (cell r ∷ drop i v)) t.whole
         ∙ ap (λ v. v ++ (cell r ∷ drop i (map cell rows))) (take-map cell i rows)
         ∙ ap (λ v. map cell (take i rows) ++ (cell r ∷ v)) (drop-map cell i rows)
-        ∙ sym (map_append cell (take i rows) (r ∷ drop i rows))
+        ∙ sym (map-append cell (take i rows) (r ∷ drop i rows))
         ∙ ap (λ p. map cell (take p rows ++ (r ∷ drop p rows))) at
         ∙ ap (map cell) (sym (put_new o laws join r rows none))

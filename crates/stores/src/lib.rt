@@ -1,3 +1,5 @@
 // Stores of rows.
+#![tactic(auto)]
+
 mod search;
 pub mod table;

@@ -1,5 +1,7 @@
 // Drives a statement and the readers to each of their refusals, and prints what they answer. The statement has room
 // for two lines and two days. Standard input has the records, one to a line.
+#![tactic(auto)]
+
 ghost use Rattle.std.specs.Prelude.{◌≡◌};
 ghost use Rattle.statement.specs.Statement.{Kept};
 

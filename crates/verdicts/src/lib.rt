@@ -1,4 +1,6 @@
 // A declared file contested: a verdict for each detail line, and for each month whether it is contestable.
+#![tactic(auto)]
+
 pub mod contesting;
 mod details;
 pub mod faults;

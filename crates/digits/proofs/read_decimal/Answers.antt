@@ -8,5 +8,5 @@ returns-then-bytes-width c = record { value = search rules; fits = tt; back = wr
 
 pub returns : goal.returns
 returns c =
-    let v : c.decimal-value.result ≡ numeral c.args.width c.args.bytes.now = search rules in
-    record { value = v; fits = numeral_fits c.args.width c.args.bytes.now c.decimal-value.result v; back = writes_back }
+    let v : c.decimal_value.result ≡ numeral c.args.width c.args.bytes.now = search rules in
+    record { value = v; fits = numeral_fits c.args.width c.args.bytes.now c.decimal_value.result v; back = writes_back }
