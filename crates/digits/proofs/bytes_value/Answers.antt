@@ -3,11 +3,11 @@ use Rattle.digits.specs.Positional.{number_after, big_endian}
 use Rattle.digits.proofs.Positional.{below_more, below_fits, read_more, read_all}
 use Rattle.digits.proofs.bytes_value.Goals as goal
 
-pub overflow-mul-n : goal.overflow-mul-n
-overflow-mul-n c = let k : c.loop-b.n < 256 ^ 15 = below_fits 256 c.loop-b.b-index 15 c.loop-b.n (omega arith) (omega arith) c.loop-b.invariant.1 in omega arith
+pub overflow_mul-n : goal.overflow_mul-n
+overflow_mul-n c = let k : c.loop-b.n < 256 ^ 15 = below_fits 256 c.loop-b.b-index 15 c.loop-b.n (omega arith) (omega arith) c.loop-b.invariant.1 in omega arith
 
-pub overflow-add-n : goal.overflow-add-n
-overflow-add-n c = let k : c.loop-b.n < 256 ^ 15 = below_fits 256 c.loop-b.b-index 15 c.loop-b.n (omega arith) (omega arith) c.loop-b.invariant.1 in omega arith
+pub overflow_add-n : goal.overflow_add-n
+overflow_add-n c = let k : c.loop-b.n < 256 ^ 15 = below_fits 256 c.loop-b.b-index 15 c.loop-b.n (omega arith) (omega arith) c.loop-b.invariant.1 in omega arith
 
 pub loop-b-preserved : goal.loop-b-preserved
 loop-b-preserved c =

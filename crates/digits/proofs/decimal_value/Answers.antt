@@ -13,11 +13,11 @@ returns-then-b-lt48 c =
       | then-b-lt48-via-else-b-lt48+then-b-gt57 w ↦ bad (inr (omega arith))
     ]))
 
-pub overflow-mul-n : goal.overflow-mul-n
-overflow-mul-n c = let k : c.loop-b.n < 10 ^ 18 = below_fits 10 c.loop-b.b-index 18 c.loop-b.n (omega arith) (omega arith) c.loop-b.invariant.2 in omega arith
+pub overflow_mul-n : goal.overflow_mul-n
+overflow_mul-n c = let k : c.loop-b.n < 10 ^ 18 = below_fits 10 c.loop-b.b-index 18 c.loop-b.n (omega arith) (omega arith) c.loop-b.invariant.2 in omega arith
 
-pub overflow-add-n : goal.overflow-add-n
-overflow-add-n c = let k : c.loop-b.n < 10 ^ 18 = below_fits 10 c.loop-b.b-index 18 c.loop-b.n (omega arith) (omega arith) c.loop-b.invariant.2 in omega arith
+pub overflow_add-n : goal.overflow_add-n
+overflow_add-n c = let k : c.loop-b.n < 10 ^ 18 = below_fits 10 c.loop-b.b-index 18 c.loop-b.n (omega arith) (omega arith) c.loop-b.invariant.2 in omega arith
 
 pub loop-b-preserved : goal.loop-b-preserved
 loop-b-preserved c =

@@ -14,9 +14,9 @@ returns-then-self-eq0 g c = record {
 
 pub returns-else-self-eq0 : goal.returns-else-self-eq0
 returns-else-self-eq0 g c = record {
-  kept = c.end-held.ensures.kept;
+  kept = c.end_held.ensures.kept;
   taken = λ p h.
       let ys = p ++ c.args.bytes.now in
-      let r = c.end-held.ensures.taken ys (c.hold.ensures.held p h) in
-      (r.0, subst (λ (s : g.row.S.Denot). g.S.RecordSink.takes s ys c.end-held.new.self.sink) c.hold.ensures.same r.1);
+      let r = c.end_held.ensures.taken ys (c.hold.ensures.held p h) in
+      (r.0, subst (λ (s : g.row.S.Denot). g.S.RecordSink.takes s ys c.end_held.new.self.sink) c.hold.ensures.same r.1);
 }

@@ -5,10 +5,10 @@ use Rattle.intake.proofs.Intake.end_rest.Goals as goal
 
 pub returns-then-self-gt0 : goal.returns-then-self-gt0
 returns-then-self-gt0 g c = record {
-  kept = c.end-held.ensures.kept;
+  kept = c.end_held.ensures.kept;
   taken = λ start xs fed.
-      ends_rest g.S.RecordSink start c.end-held.new.self.sink xs c.args.self.now c.if-self-gt0.true fed
-      (c.end-held.ensures.taken (unended_rest xs) fed.rest).1;
+      ends_rest g.S.RecordSink start c.end_held.new.self.sink xs c.args.self.now c.if-self-gt0.true fed
+      (c.end_held.ensures.taken (unended_rest xs) fed.rest).1;
 }
 
 pub returns-else-self-gt0 : goal.returns-else-self-gt0

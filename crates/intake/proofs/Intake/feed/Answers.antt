@@ -12,8 +12,8 @@ returns-then-n-rest g c =
     let at = c.loop-at.at in
     let d = drop at xs in
     let whole : take (length xs - at) d ≡ d = take_rest xs at in
-    let n-is : c.line-length-n.result ≡ line_length d = rw whole at c.line-length-n.ensures.value in
-    let n-all : c.line-length-n.result ≡ length d = rw whole at c.if-n-rest.true in
+    let n-is : c.line_length-n.result ≡ line_length d = rw whole at c.line_length-n.ensures.value in
+    let n-all : c.line_length-n.result ≡ length d = rw whole at c.if-n-rest.true in
     let none : has_end d ≡ false = none_in_all d (sym n-is ∙ n-all) in
     record {
       kept = subst (λ (s : g.row.S.Denot). g.S.RecordSink.kept s) (sym c.hold.ensures.same) c.loop-at.invariant.1;
@@ -28,23 +28,23 @@ pub loop-at-preserved : goal.loop-at-preserved
 loop-at-preserved g c =
     let xs = c.args.piece.now in
     let at = c.loop-at.at in
-    let n = c.line-length-n.result in
+    let n = c.line_length-n.result in
     let d = drop at xs in
     let whole : take (length xs - at) d ≡ d = take_rest xs at in
-    let n-is : n ≡ line_length d = rw whole at c.line-length-n.ensures.value in
-    let n-most : n ≤ length d = rw whole at c.line-length-n.ensures.bound in
+    let n-is : n ≡ line_length d = rw whole at c.line_length-n.ensures.value in
+    let n-most : n ≤ length d = rw whole at c.line_length-n.ensures.bound in
     let n-not : n ≡ length d → ⊥ = rw whole at c.if-n-rest.false in
     let n-less : n < length d = omega arith in
     let l : length d ≡ length xs - at = length-drop at xs in
     let none : has_end (take n d) ≡ false = ap (λ k. has_end (take k d)) n-is ∙ none_before d in
     let line = take_line xs at n n-is n-less in (
       omega arith,
-      c.end-line.ensures.kept,
+      c.end_line.ensures.kept,
       λ start fore fed.
-          let h = subst (λ (ys : List ℕ). Fed g.S.RecordSink start ys c.end-line.new.self) (append_assoc fore (take at xs) (take n d ++ (line_feed ∷ [])))
-          (fed_line g.S.RecordSink start (fore ++ take at xs) (take n d) c.loop-at.self c.end-line.new.self none c.end-line.ensures.kept
-          (rw whole at c.end-line.ensures.taken) (c.loop-at.invariant.2 start fore fed)) in
-          subst (λ (ys : List ℕ). Fed g.S.RecordSink start (fore ++ ys) c.end-line.new.self) (sym line) h,
+          let h = subst (λ (ys : List ℕ). Fed g.S.RecordSink start ys c.end_line.new.self) (append_assoc fore (take at xs) (take n d ++ (line_feed ∷ [])))
+          (fed_line g.S.RecordSink start (fore ++ take at xs) (take n d) c.loop-at.self c.end_line.new.self none c.end_line.ensures.kept
+          (rw whole at c.end_line.ensures.taken) (c.loop-at.invariant.2 start fore fed)) in
+          subst (λ (ys : List ℕ). Fed g.S.RecordSink start (fore ++ ys) c.end_line.new.self) (sym line) h,
     )
 
 pub returns : goal.returns

@@ -5,5 +5,5 @@ use Rattle.values.proofs.text.is_two_parts.Given as goal
 
 abbrev pub invariant-loop-b : goal.invariant-loop-b
 invariant-loop-b l =
-    cond l.in-front (two_parts (has_kind l.front) (has_kind l.back) (drop l.b-index l.bytes)) (all_pass (has_kind l.back) (drop l.b-index l.bytes))
+    cond l.in_front (two_parts (has_kind l.front) (has_kind l.back) (drop l.b-index l.bytes)) (all_pass (has_kind l.back) (drop l.b-index l.bytes))
     ≡ two_parts (has_kind l.front) (has_kind l.back) l.bytes

@@ -6,15 +6,14 @@ use Rattle.values.proofs.Backs.{point_back}
 use Rattle.values.proofs.LabelLaws.{bytes_read, label_number_lem, label_named}
 use Rattle.values.proofs.labels.Point.read.Goals as goal
 
-pub invariant-of-result : goal.invariant-of-result
-invariant-of-result c =
-    let e : c.in-ok-number.number ≡ big_endian c.args.bytes.now = bytes_read _ _ c.in-ok-number.ensures.value in (
-      ap is_point_number e
-          ∙ label_number_lem 10 is_point _ (λ cs. refl) c.args.bytes.now (λ i. omega (arith, c.type-inv.bytes i)) (sym c.if-not-is-point.ensures),
-      tt,
-    )
+pub invariant_of-result : goal.invariant_of-result
+invariant_of-result c =
+    let e : c.in_ok-number.number ≡ big_endian c.args.bytes.now = bytes_read _ _ c.in_ok-number.ensures.value in record {
+      ok = ap is_point_number e
+          ∙ label_number_lem 10 is_point _ (λ cs. refl) c.args.bytes.now (λ i. omega (arith, c.type_inv.bytes i)) (sym c.if-not-is_point.ensures);
+    }
 
 pub returns : goal.returns
 returns c =
-    let e : c.in-ok-number.number ≡ big_endian c.args.bytes.now = bytes_read _ _ c.in-ok-number.ensures.value in
-    label_named (is_point c.args.bytes.now) point_of c.args.bytes.now _ _ c.if-not-is-point.ensures e (point_back _)
+    let e : c.in_ok-number.number ≡ big_endian c.args.bytes.now = bytes_read _ _ c.in_ok-number.ensures.value in
+    label_named (is_point c.args.bytes.now) point_of c.args.bytes.now _ _ c.if-not-is_point.ensures e (point_back _)
