@@ -2,7 +2,6 @@
 use Rattle.std.specs.Prelude.{ℕ, Ok, Err, Result}
 use Rattle.cdr.specs.declared.faults.Charged.{Charged}
 use Rattle.cdr.specs.declared.faults.Place.{Place}
-use Rattle.cdr.specs.declared.faults.Place.TheVariants as Place
 use Rattle.cdr.specs.declared.faults.RecordFault.{RecordFault}
 use Rattle.cdr.specs.declared.faults.RecordFault.TheVariants.{Length, Malformed, Category, Selection, Sliced, Cause}
 

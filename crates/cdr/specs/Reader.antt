@@ -1,12 +1,12 @@
 -- What a call record says, and which fault the reader finds in it. Columns count from 1.
-use Rattle.std.specs.Prelude.{ℕ, ◌-◌, Bool, true, false, cond, not, ◌&&◌, ◌||◌, List, [], ◌∷◌, length, take, drop, Some, None, Ok, Err, Option, Result, ◌==◌, nat_lt, slice_index}
+use Rattle.std.specs.Prelude.{ℕ, ◌-◌, Bool, cond, not, ◌&&◌, ◌||◌, List, length, take, drop, Some, None, Ok, Err, Option, Result, ◌==◌, nat_lt, slice_index}
 use Rattle.digits.specs.Positional.{numeral}
 use Rattle.values.specs.Checked.{and_then}
 use Rattle.values.specs.Values.{day_in, time_in, duration_in, point_in, descriptor_in}
 use Rattle.cdr.specs.declared.call.CallRecord.{CallRecord}
 use Rattle.cdr.specs.declared.faults.Charged.{Charged}
 use Rattle.cdr.specs.declared.faults.RecordFault.{RecordFault}
-use Rattle.cdr.specs.declared.faults.RecordFault.TheVariants.{Length, Malformed, Category, Selection, Sliced, Cause}
+use Rattle.cdr.specs.declared.faults.RecordFault.TheVariants.{Length, Category, Selection, Sliced, Cause}
 use Rattle.cdr.specs.Faults.{charge, charged_to, malformed_at}
 
 -- the bytes of columns a to e

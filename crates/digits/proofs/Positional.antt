@@ -1,5 +1,5 @@
 -- Laws of numbers in a fixed number of places, over the base and the symbol of 0.
-use Rattle.std.proofs.Common.{◌≡◌, ℕ, zero, suc, ◌+◌, ◌-◌, ◌*◌, ◌/◌, ◌%◌, ◌^◌, ◌<◌, ◌≤◌, Bool, true, false, ◌&&◌, ◌||◌, eqb, ltb, leb, ◌⊎◌, List, [], ◌∷◌, ◌++◌, length, get_or, drop, set, IfSome, Some, None, Option, sym, refl, ap, ◌∙◌, subst, inl, inr, ⊎_elim, append_assoc, lt_of_lt_of_le, add-zero, mod-lt, div-lt_iff_lt-mul, pow-suc, div-add-mod', add-one, arith, length-append}
+use Rattle.std.proofs.Common.{◌≡◌, ℕ, zero, suc, ◌+◌, ◌-◌, ◌*◌, ◌/◌, ◌%◌, ◌^◌, ◌<◌, ◌≤◌, Bool, true, false, ◌&&◌, ◌||◌, eqb, ltb, leb, ◌⊎◌, List, [], ◌∷◌, ◌++◌, length, get_or, drop, set, IfSome, Some, None, Option, sym, refl, ap, ◌∙◌, subst, ⊎_elim, append_assoc, lt_of_lt_of_le, add-zero, mod-lt, div-lt_iff_lt-mul, pow-suc, div-add-mod', add-one, arith}
 use native.Mathlib.Nat.{pow-zero, pow-le-pow_right}
 use lib.Arith.{digits_lt, digits_div, digits_mod}
 use Rattle.std.proofs.lemmas.List.{drop-set, drop_all, append-nil, length_push, at_drop_more, at_drop_all}

@@ -5,7 +5,7 @@ use Rattle.std.specs.declared.cmp.Ordering.{Ordering}
 use Rattle.std.proofs.Common.{sym, ◌∙◌, inl, inr, ⊎_elim, arith}
 use Rattle.std.specs.Ordering.{MatchOrdering, ordering_then, ordering_reverse}
 use Rattle.std.proofs.lemmas.Bool.Decides.{nat_tests}
-use Rattle.ledger.specs.Keys.{KeyOps, OrderLaws}
+use Rattle.ledger.specs.Keys.{OrderLaws}
 use Rattle.ledger.specs.Lex.{order_of, lex_order, keys_by}
 
 order_same : (x : ℕ) → order_of x x ≡ Equal

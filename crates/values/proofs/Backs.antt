@@ -1,11 +1,11 @@
 -- A value is made again from its number, so values with equal numbers are equal.
-use Rattle.std.proofs.Common.{◌≡◌, ℕ, ◌+◌, ◌<◌, ◌≤◌, Bool, true, false, cond, leb, List, Some, None, Option, sym, refl, ap, ◌∙◌, arith}
+use Rattle.std.proofs.Common.{◌≡◌, ℕ, ◌+◌, ◌≤◌, Bool, true, false, Some, None, Option, sym, refl, ap, ◌∙◌, arith}
 use mathlib.Core.Bool.{Bool-set}
 use mathlib.Core.HLevel.{Σ_prop_path}
 use native.Mathlib.Bridge.{le_prop}
 use Rattle.std.proofs.lemmas.Bool.{false≢true, leb-true, le-leb}
 use Rattle.values.specs.Calendar.{IsMonth, is_month, IsDay, is_day, IsTime, is_time, is_duration, seconds_of}
-use Rattle.values.specs.Checked.{checked, and_then}
+use Rattle.values.specs.Checked.{checked}
 use Rattle.values.specs.Labels.{is_point_number, is_descriptor_number}
 use Rattle.values.specs.Rates.{is_tariff, are_rates, IsScenario, is_scenario, IsCarrier, is_carrier, is_back}
 use Rattle.values.specs.Values.{month_of, day_of, time_of, duration_of, point_of, descriptor_of, tariff_of, rates_of, scenario_of, carrier_of, terms_of}

@@ -1,7 +1,7 @@
 -- A number in the range of its type passes its test.
-use Rattle.std.proofs.Common.{◌≡◌, ℕ, ◌+◌, ◌/◌, ◌%◌, ◌<◌, ◌≤◌, true, ◌&&◌, ltb, leb}
+use Rattle.std.proofs.Common.{◌≡◌, ℕ, ◌/◌, ◌%◌, true, ◌&&◌, ltb, leb}
 use Rattle.std.proofs.lemmas.Bool.{and_from, le-leb, lt-ltb}
-use Rattle.values.specs.Calendar.{IsMonth, is_month, IsDay, is_day, IsTime, is_time, is_duration, seconds_of, days_in}
+use Rattle.values.specs.Calendar.{IsMonth, is_month, IsDay, is_day, IsTime, is_time, days_in}
 use Rattle.values.specs.Rates.{IsScenario, is_scenario, IsCarrier, is_carrier}
 
 pub month_test : (n : ℕ) → IsMonth n → is_month n ≡ true

@@ -1,5 +1,5 @@
 -- A text of a label has the number of a label.
-use Rattle.std.proofs.Common.{◌≡◌, ℕ, ◌^◌, ◌<◌, Bool, true, cond, ◌&&◌, eqb, ltb, leb, List, length, get_or, Some, None, Option, sym, ap, ◌∙◌, subst, ⊎_elim, arith}
+use Rattle.std.proofs.Common.{◌≡◌, ℕ, ◌^◌, ◌<◌, Bool, true, cond, ◌&&◌, eqb, ltb, leb, List, length, get_or, Some, None, Option, sym, ap, ◌∙◌, ⊎_elim, arith}
 use Rattle.std.proofs.lemmas.Bool.{and_parts, and_from, lt-ltb, eqb-true, cond-true, cond-false, cases_Bool}
 use Rattle.digits.specs.Positional.{big_endian, bytes_of, read_bytes}
 use Rattle.digits.proofs.Positional.{bytes_back}

@@ -1,10 +1,9 @@
 -- The value that a number or a text stands for, or none where it is out of range.
-use Rattle.std.specs.Prelude.{◌≡◌, ℕ, ◌+◌, ◌/◌, cond, List, Some, None, Option, nat_le}
-use Rattle.std.proofs.Common.{arith}
+use Rattle.std.specs.Prelude.{ℕ, ◌+◌, ◌/◌, cond, List, None, Option, nat_le}
 use Rattle.std.proofs.lemmas.Bool.{leb-true}
-use Rattle.digits.specs.Positional.{big_endian, numeral}
+use Rattle.digits.specs.Positional.{big_endian}
 use Rattle.values.specs.Calendar.{is_month, is_day, is_time, is_duration, seconds_of}
-use Rattle.values.specs.Checked.{checked, and_then, numbered}
+use Rattle.values.specs.Checked.{checked, numbered}
 use Rattle.values.specs.Labels.{is_point, is_point_number, is_descriptor, is_descriptor_number}
 use Rattle.values.specs.Rates.{is_tariff, are_rates, is_scenario, is_carrier, is_back}
 use Rattle.values.specs.Ranges.{month_range, day_range, time_range, duration_range, scenario_range, carrier_range}

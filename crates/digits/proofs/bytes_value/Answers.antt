@@ -1,4 +1,4 @@
-use Rattle.std.proofs.Common.{◌≡◌, ◌+◌, ◌-◌, ◌*◌, ◌^◌, ◌<◌, ◌≤◌, length, get_or, drop, ap, arith, rules}
+use Rattle.std.proofs.Common.{◌≡◌, ◌+◌, ◌-◌, ◌*◌, ◌^◌, ◌<◌, get_or, drop, arith}
 use Rattle.digits.specs.Positional.{number_after, big_endian}
 use Rattle.digits.proofs.Positional.{below_more, below_fits, read_more, read_all}
 use Rattle.digits.proofs.bytes_value.Goals as goal

@@ -1,5 +1,5 @@
-use Rattle.std.proofs.Common.{◌≡◌, ◌+◌, ◌-◌, ◌*◌, ◌^◌, ◌<◌, ◌≤◌, true, false, length, get_or, drop, ap, inl, inr, arith, rules}
-use Rattle.digits.specs.Positional.{number_after, decimal, all_decimal}
+use Rattle.std.proofs.Common.{◌-◌, ◌^◌, ◌<◌, get_or, inl, inr, arith}
+use Rattle.digits.specs.Positional.{decimal, all_decimal}
 use Rattle.digits.proofs.Positional.{below_more, below_fits, read_more, read_all, test_more, test_stops, test_all, reads_some, reads_none}
 use Rattle.digits.proofs.decimal_value.Goals as goal
 use Rattle.digits.proofs.decimal_value.Goals.{then-b-lt48-via-then-b-lt48, then-b-lt48-via-else-b-lt48+then-b-gt57}

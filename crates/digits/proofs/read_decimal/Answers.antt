@@ -1,4 +1,4 @@
-use Rattle.std.proofs.Common.{◌≡◌, Some, None, sym, arith, rules}
+use Rattle.std.proofs.Common.{◌≡◌, rules}
 use Rattle.digits.specs.Positional.{numeral}
 use Rattle.digits.proofs.Positional.{writes_back, numeral_fits}
 use Rattle.digits.proofs.read_decimal.Goals as goal

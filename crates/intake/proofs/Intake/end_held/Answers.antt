@@ -1,13 +1,13 @@
 use Rattle.std.proofs.Common.{◌≡◌, ℕ, List, sym, ap, subst, arith}
 use Rattle.intake.proofs.StreamLaws.{held_is, nothing_held}
 use Rattle.intake.proofs.Intake.end_held.Goals as goal
-use Rattle.intake.proofs.Intake.end_held.Goals.{Then-self-le-LONGEST, Else-self-le-LONGEST}
+use Rattle.intake.proofs.Intake.end_held.Goals.{then-self-le-LONGEST, else-self-le-LONGEST}
 
 pub returns : goal.returns
 returns g c =
     let s = c.args.self.now in
     elim c.if-self-le-LONGEST.branch [
-      | Then-self-le-LONGEST w ↦
+      | then-self-le-LONGEST w ↦
           let e : c.if-self-le-LONGEST.self.sink ≡ w.take.new.self = ap (λ t. t.sink) w.self-is in
           record {
             kept = subst (λ (u : g.row.S.Denot). g.S.RecordSink.kept u) (sym e) w.take.ensures.kept;
@@ -18,7 +18,7 @@ returns g c =
                       (subst (λ (ys : List ℕ). g.S.RecordSink.takes s.sink ys w.take.new.self) whole w.take.ensures.takes),
                 );
           }
-      | Else-self-le-LONGEST w ↦
+      | else-self-le-LONGEST w ↦
           let e : c.if-self-le-LONGEST.self.sink ≡ w.take_overlong.new.self = ap (λ t. t.sink) w.self-is in
           record {
             kept = subst (λ (u : g.row.S.Denot). g.S.RecordSink.kept u) (sym e) w.take_overlong.ensures.kept;

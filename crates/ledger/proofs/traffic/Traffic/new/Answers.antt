@@ -2,5 +2,5 @@ use Rattle.std.proofs.Common.{sym}
 use Rattle.ledger.specs.RowLaws.{traffic_back}
 use Rattle.ledger.proofs.traffic.Traffic.new.Goals as goal
 
-pub returns-then-tenths-le-MOST-TENTHS : goal.returns-then-tenths-le-MOST-TENTHS
-returns-then-tenths-le-MOST-TENTHS c = sym (traffic_back _)
+pub returns-then-tenths-le-MOST_TENTHS : goal.returns-then-tenths-le-MOST_TENTHS
+returns-then-tenths-le-MOST_TENTHS c = sym (traffic_back _)

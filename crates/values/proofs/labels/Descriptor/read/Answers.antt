@@ -1,4 +1,4 @@
-use Rattle.std.proofs.Common.{◌≡◌, ◌^◌, ◌<◌, sym, refl, ap, ◌∙◌, arith}
+use Rattle.std.proofs.Common.{◌^◌, ◌<◌, sym, refl, ap, ◌∙◌, arith}
 use Rattle.digits.specs.Positional.{big_endian}
 use Rattle.values.specs.Labels.{is_descriptor, is_descriptor_number}
 use Rattle.values.specs.Values.{descriptor_of}
