@@ -29,7 +29,7 @@ use Rattle.statement.specs.declared.joining.JoinFault.{JoinFault}
 use Rattle.statement.specs.declared.posting.Booked.{Booked}
 use Rattle.statement.specs.declared.posting.Posting.{Posting}
 use Rattle.account.specs.Postings.{brought, added, postings, line_of, day_of, refused_with, sequentials}
-use Rattle.account.specs.Settled.{judged, Fair, limit, lines, days, TakeRight, TakeRight.spent, TakeRight.faulty, TakeRight.line_full, TakeRight.day_full, TakeRight.books, JoinRight, JoinRight.unlike, JoinRight.too_many, JoinRight.lines_full_lem, JoinRight.days_full_lem, JoinRight.joins, Right, NotForSpace, Equal, Settled}
+use Rattle.account.specs.Settled.{judged, Fair, limit, lines, days, TakeRight, TakeRight.spent, TakeRight.faulty, TakeRight.line_full, TakeRight.day_full, TakeRight.books, JoinRight, JoinRight.unlike, JoinRight.too_many, JoinRight.lines_full, JoinRight.days_full, JoinRight.joins, Right, NotForSpace, Equal, Settled}
 use Rattle.account.proofs.Figures.{line_right, day_right, net_shown}
 use Rattle.account.proofs.FileSums.{sums_fit}
 use Rattle.account.proofs.States as states
@@ -124,8 +124,8 @@ joins_right m g a c h i = at (join_answer m g) (states.joins m g)
     at : (x : Result (Unit {0}) JoinFault) → states.Joins m g x → JoinRight m a g c x
     at (Err f) (states.Joins.unlike e) = unlike (λ p q. true≢false (sym (like p q) ∙ e))
     at (Err f) (states.Joins.too_many e u) = let t = same_kind m g e in too_many t.0 t.1 (over u)
-    at (Err f) (states.Joins.lines_full_lem e u v) = let t = same_kind m g e in lines_full_lem t.0 t.1 (within u) (full _ _ m.lines.most lines_size v)
-    at (Err f) (states.Joins.days_full_lem e u v w) =
+    at (Err f) (states.Joins.lines_full e u v) = let t = same_kind m g e in lines_full_lem t.0 t.1 (within u) (full _ _ m.lines.most lines_size v)
+    at (Err f) (states.Joins.days_full e u v w) =
         let t = same_kind m g e in
         days_full_lem t.0 t.1 (within u) (fit _ _ m.lines.most lines_size v) (full _ _ m.days.most days_size w)
     at (Ok x) (states.Joins.fits e u v w) =

@@ -16,21 +16,21 @@ pub struct HoldBack<S: RowStore> {
 impl<S: RowStore> HoldBack<S> {
     // A layer with nothing held.
     pub fn new(below: S) -> HoldBack<S>
-        requires { StoreKept Row-as-Row S.RowStore below }
+        requires { StoreKept S.Row.Row S.RowStore below }
         ensures below { result.below ≡ below }
         ensures held { result.held ≡ None }
-        ensures ledger { ledger_of Row-as-Row S.RowStore result ≡ S.RowStore.ledger below }
-        ensures kept { LayerKept Row-as-Row S.RowStore result }
+        ensures ledger { ledger_of S.Row.Row S.RowStore result ≡ S.RowStore.ledger below }
+        ensures kept { LayerKept S.Row.Row S.RowStore result }
     {
         HoldBack { below, held: None }
     }
 
     // Puts the held row into the store below, where it fits.
     fn pass_down(&mut self)
-        requires { Holding Row-as-Row S.RowStore self.old }
+        requires { Holding S.Row.Row S.RowStore self.old }
         ensures held { self.new.held ≡ None }
-        ensures below { S.RowStore.ledger self.new.below ≡ ledger_of Row-as-Row S.RowStore self.old }
-        ensures kept { StoreKept Row-as-Row S.RowStore self.new.below }
+        ensures below { S.RowStore.ledger self.new.below ≡ ledger_of S.Row.Row S.RowStore self.old }
+        ensures kept { StoreKept S.Row.Row S.RowStore self.new.below }
         ensures still { self.old.held ≡ None → self.new.below ≡ self.old.below }
     {
         if let Some(held) = self.held.take() {
@@ -40,9 +40,9 @@ impl<S: RowStore> HoldBack<S> {
 
     // Ends the layer: the store below, with the held row put into it.
     pub fn into_below(self) -> S
-        requires { LayerKept Row-as-Row S.RowStore self }
-        ensures ledger { S.RowStore.ledger result ≡ ledger_of Row-as-Row S.RowStore self }
-        ensures kept { StoreKept Row-as-Row S.RowStore result }
+        requires { LayerKept S.Row.Row S.RowStore self }
+        ensures ledger { S.RowStore.ledger result ≡ ledger_of S.Row.Row S.RowStore self }
+        ensures kept { StoreKept S.Row.Row S.RowStore result }
     {
         let mut layer = self;
         layer.pass_down();

@@ -54,7 +54,7 @@ fn slot(bytes: &[u8], width: usize, i: usize) -> &[u8]
 
 // The row at an index, if there is a well-formed one.
 pub fn row_at<R: ImageRow>(bytes: &[u8], i: usize) -> Option<R>
-    ensures { result ≡ row_at R.ImageRow bytes.now i }
+    ensures { result ≡ row_at R.ImageRow.own bytes.now i }
 {
     if i >= whole_rows::<R>(bytes) {
         return None;
@@ -74,7 +74,7 @@ fn has_key<R: ImageRow>(row: Option<R>, key: R::Key) -> bool
 
 // The index of the first of so many rows that has this key.
 pub fn place_of<R: ImageRow>(bytes: &[u8], count: usize, key: R::Key) -> Option<usize>
-    ensures value { result ≡ place_of R.Row.keys key (row_at R.ImageRow bytes.now) count }
+    ensures value { result ≡ place_of R.Row.keys key (row_at R.ImageRow.own bytes.now) count }
     ensures within { IfSome result (λ i. i < count) }
 {
     for i in 0..count {
@@ -87,7 +87,7 @@ pub fn place_of<R: ImageRow>(bytes: &[u8], count: usize, key: R::Key) -> Option<
 
 // Whether the row at an index is malformed or repeats the key of an earlier row.
 fn is_fault<R: ImageRow>(bytes: &[u8], i: usize) -> bool
-    ensures { result ≡ is_fault R.Row.keys (row_at R.ImageRow bytes.now i) (arrived R.Row.keys R.Row.joined (row_at R.ImageRow bytes.now) i) }
+    ensures { result ≡ is_fault R.Row.keys (row_at R.ImageRow.own bytes.now i) (arrived R.Row.keys R.Row.joined (row_at R.ImageRow.own bytes.now) i) }
 {
     match row_at::<R>(bytes, i) {
         Some(row) => place_of::<R>(bytes, i, row.key()).is_some(),
@@ -97,7 +97,7 @@ fn is_fault<R: ImageRow>(bytes: &[u8], i: usize) -> bool
 
 // The index of the first of so many rows that is at fault.
 fn first_fault<R: ImageRow>(bytes: &[u8], count: usize) -> Option<usize>
-    ensures value { result ≡ first_fault R.Row.keys R.Row.joined (row_at R.ImageRow bytes.now) count }
+    ensures value { result ≡ first_fault R.Row.keys R.Row.joined (row_at R.ImageRow.own bytes.now) count }
     ensures within { IfSome result (λ i. i < count) }
 {
     for i in 0..count {
@@ -110,7 +110,7 @@ fn first_fault<R: ImageRow>(bytes: &[u8], count: usize) -> Option<usize>
 
 // Refuses bytes that are no image of rows of this type, by the first row at fault.
 pub fn check<R: ImageRow>(bytes: &[u8]) -> Result<(), ImageFault>
-    ensures { result ≡ checked R.Row R.ImageRow bytes.now }
+    ensures { result ≡ checked R.Row R.ImageRow.own bytes.now }
 {
     let Some(count) = count_rows::<R>(bytes) else {
         return Err(ImageFault { row: 0 });

@@ -46,7 +46,7 @@ fn join_to<R: ImageRow>(held: Option<R>, row: R) -> R
 // Joins the row to the one at an index.
 fn join_at<R: ImageRow>(bytes: &mut [u8], i: usize, row: R)
     requires { i < whole_in R.ImageRow.width bytes.old }
-    ensures { bytes.new ≡ joined_at R.Row R.ImageRow bytes.old i row }
+    ensures { bytes.new ≡ joined_at R.Row R.ImageRow.own bytes.old i row }
 {
     let joined = join_to(row_at::<R>(bytes, i), row);
     write_slot(bytes, i, joined);
@@ -55,7 +55,7 @@ fn join_at<R: ImageRow>(bytes: &mut [u8], i: usize, row: R)
 // One more row behind so many, and the count.
 fn append<R: ImageRow>(bytes: &mut [u8], count: usize, row: R)
     requires { count < whole_in R.ImageRow.width bytes.old }
-    ensures { bytes.new ≡ appended R.ImageRow bytes.old count row }
+    ensures { bytes.new ≡ appended R.ImageRow.own bytes.old count row }
 {
     write_slot(bytes, count, row);
     write_decimal(&mut bytes[0..COUNT_WIDTH], count as u64 + 1);
@@ -64,7 +64,7 @@ fn append<R: ImageRow>(bytes: &mut [u8], count: usize, row: R)
 // Appends a row whose key is new, if there is room.
 fn put_new<R: ImageRow>(bytes: &mut [u8], count: usize, row: R) -> Result<(), Full<R>>
     ensures answer { result ≡ placed row (nat_lt count (most_in R.ImageRow.width bytes.old)) }
-    ensures bytes { bytes.new ≡ (if ltb count (most_in R.ImageRow.width bytes.old) then appended R.ImageRow bytes.old count row else bytes.old) }
+    ensures bytes { bytes.new ≡ (if ltb count (most_in R.ImageRow.width bytes.old) then appended R.ImageRow.own bytes.old count row else bytes.old) }
 {
     if count < most_rows::<R>(bytes) {
         append(bytes, count, row);
@@ -76,12 +76,12 @@ fn put_new<R: ImageRow>(bytes: &mut [u8], count: usize, row: R) -> Result<(), Fu
 
 // Joins the row to the one of its key, or appends it.
 pub fn put_row<R: ImageRow>(bytes: &mut [u8], row: R) -> Result<(), Full<R>>
-    requires { KeptImage R.Row R.ImageRow bytes.old }
-    ensures answer { result ≡ placed row (takes R.Row.keys row (image_ledger R.Row R.ImageRow bytes.old)) }
-    ensures bytes { bytes.new ≡ put_bytes R.Row R.ImageRow row bytes.old }
-    ensures after { image_ledger R.Row R.ImageRow bytes.new ≡ put_in R.Row.keys R.Row.joined row (image_ledger R.Row R.ImageRow bytes.old) }
+    requires { KeptImage R.Row R.ImageRow.own bytes.old }
+    ensures answer { result ≡ placed row (takes R.Row.keys row (image_ledger R.Row R.ImageRow.own bytes.old)) }
+    ensures bytes { bytes.new ≡ put_bytes R.Row R.ImageRow.own row bytes.old }
+    ensures after { image_ledger R.Row R.ImageRow.own bytes.new ≡ put_in R.Row.keys R.Row.joined row (image_ledger R.Row R.ImageRow.own bytes.old) }
     ensures same { OnErr result (bytes.new ≡ bytes.old) }
-    ensures kept { KeptImage R.Row R.ImageRow bytes.new }
+    ensures kept { KeptImage R.Row R.ImageRow.own bytes.new }
 {
     let count = rows_in::<R>(bytes);
     match place_of::<R>(bytes, count, row.key()) {
@@ -95,10 +95,10 @@ pub fn put_row<R: ImageRow>(bytes: &mut [u8], row: R) -> Result<(), Full<R>>
 
 // No rows: the count alone is written.
 pub fn clear_rows<R: ImageRow>(bytes: &mut [u8])
-    requires { KeptImage R.Row R.ImageRow bytes.old }
+    requires { KeptImage R.Row R.ImageRow.own bytes.old }
     ensures bytes { bytes.new ≡ blank_bytes bytes.old }
-    ensures after { image_ledger R.Row R.ImageRow bytes.new ≡ with_rows (image_ledger R.Row R.ImageRow bytes.old) [] }
-    ensures kept { KeptImage R.Row R.ImageRow bytes.new }
+    ensures after { image_ledger R.Row R.ImageRow.own bytes.new ≡ with_rows (image_ledger R.Row R.ImageRow.own bytes.old) [] }
+    ensures kept { KeptImage R.Row R.ImageRow.own bytes.new }
 {
     let _ = blank(bytes);
 }

@@ -21,8 +21,8 @@ pub fn rows_in<R: ImageRow>(bytes: &[u8]) -> usize
 
 // How many rows, and the most.
 pub fn size_of<R: ImageRow>(bytes: &mut [u8]) -> Size
-    requires { KeptImage R.Row R.ImageRow bytes.old }
-    ensures answer { result ≡ size_of (image_ledger R.Row R.ImageRow bytes.old) }
+    requires { KeptImage R.Row R.ImageRow.own bytes.old }
+    ensures answer { result ≡ size_of (image_ledger R.Row R.ImageRow.own bytes.old) }
     ensures same { bytes.new ≡ bytes.old }
 {
     Size {
@@ -33,8 +33,8 @@ pub fn size_of<R: ImageRow>(bytes: &mut [u8]) -> Size
 
 // The row with this key.
 pub fn find_row<R: ImageRow>(bytes: &mut [u8], key: R::Key) -> Option<R>
-    requires { KeptImage R.Row R.ImageRow bytes.old }
-    ensures answer { result ≡ find_row R.Row.keys key (image_ledger R.Row R.ImageRow bytes.old).rows }
+    requires { KeptImage R.Row R.ImageRow.own bytes.old }
+    ensures answer { result ≡ find_row R.Row.keys key (image_ledger R.Row R.ImageRow.own bytes.old).rows }
     ensures same { bytes.new ≡ bytes.old }
 {
     let count = rows_in::<R>(bytes);
@@ -84,7 +84,7 @@ fn next_with<R: ImageRow>(after: &Option<R::Key>, best: Option<R>, row: Option<R
 
 // The next of so many rows.
 fn next_of<R: ImageRow>(bytes: &[u8], count: usize, after: &Option<R::Key>) -> Option<R>
-    ensures { result ≡ next_row R.Row.keys after.now (arrived R.Row.keys R.Row.joined (row_at R.ImageRow bytes.now) count) }
+    ensures { result ≡ next_row R.Row.keys after.now (arrived R.Row.keys R.Row.joined (row_at R.ImageRow.own bytes.now) count) }
 {
     let mut best: Option<R> = None;
     for i in 0..count {
@@ -95,8 +95,8 @@ fn next_of<R: ImageRow>(bytes: &[u8], count: usize, after: &Option<R::Key>) -> O
 
 // The first row, or the first above a key.
 pub fn next_row<R: ImageRow>(bytes: &mut [u8], after: &Option<R::Key>) -> Option<R>
-    requires { KeptImage R.Row R.ImageRow bytes.old }
-    ensures answer { result ≡ next_row R.Row.keys after.now (image_ledger R.Row R.ImageRow bytes.old).rows }
+    requires { KeptImage R.Row R.ImageRow.own bytes.old }
+    ensures answer { result ≡ next_row R.Row.keys after.now (image_ledger R.Row R.ImageRow.own bytes.old).rows }
     ensures same { bytes.new ≡ bytes.old }
 {
     let count = rows_in::<R>(bytes);

@@ -1,5 +1,5 @@
 -- Tenths with equal counts are equal.
-use Rattle.std.proofs.Common.{◌≡◌, ℕ, ◌≤◌}
+use Rattle.std.proofs.Common.{◌≡◌, ◌≤◌}
 use native.Mathlib.Bridge.{le_prop}
 use Rattle.values.proofs.Backs.{same}
 use Rattle.rating.specs.declared.tenths.Tenths.{Tenths}

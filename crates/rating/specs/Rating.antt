@@ -1,5 +1,5 @@
 -- What rating answers for a call: month, scenario, whether it counts, and tariff, in this order.
-use Rattle.std.specs.Prelude.{ℕ, ◌/◌, Bool, cond, Some, None, Ok, Err, Option, Result}
+use Rattle.std.specs.Prelude.{◌/◌, cond, Some, None, Ok, Err, Option, Result}
 use Rattle.values.specs.Calendar.{in_window}
 use Rattle.values.specs.declared.calendar.Day.{Day}
 use Rattle.values.specs.declared.calendar.Month.{Month}
@@ -12,7 +12,6 @@ use Rattle.cdr.specs.declared.call.CallRecord.{CallRecord}
 use Rattle.rating.specs.declared.book.TariffBook as TariffBook
 use Rattle.rating.specs.declared.faults.RatingFault.{RatingFault}
 use Rattle.rating.specs.declared.faults.RatingFault.TheVariants as Fault
-use Rattle.rating.specs.declared.tenths.Tenths.{Tenths}
 use Rattle.rating.specs.declared.tenths.Rated.{Rated}
 use Rattle.rating.specs.Charge.{charge}
 

@@ -1,12 +1,12 @@
 -- What the cells of a table tell of its rows.
-use Rattle.std.proofs.Common.{◌≡◌, ℕ, zero, suc, ◌+◌, ◌<◌, ◌≤◌, List, [], ◌∷◌, ◌++◌, map, length, get_or, take, drop, set, Some, None, Option, Ordering, Equal, sym, refl, ap, ◌∙◌, subst, arith}
+use Rattle.std.proofs.Common.{◌≡◌, ℕ, zero, suc, ◌<◌, ◌≤◌, List, [], ◌∷◌, ◌++◌, map, length, get_or, take, drop, set, Some, None, Option, Ordering, Equal, sym, refl, ap, ◌∙◌, subst, arith}
 use lib.Seq.{take-set-lt}
 use Rattle.std.specs.List.{slice_get}
 use Rattle.std.specs.Option.{option_map}
 use Rattle.std.proofs.lemmas.List.{length-take-le, length-map, map-set, map-append, take-map, drop-map}
 use Rattle.std.proofs.lemmas.Option.{slice_get_read}
 use Rattle.ledger.specs.Keys.{KeyOps, OrderLaws}
-use Rattle.ledger.specs.Ledger.{Rising, find_row, put_row, holds, position, place}
+use Rattle.ledger.specs.Ledger.{Rising, find_row, put_row, position}
 use Rattle.stores.specs.Table.{rows_of, table_rows, Table}
 use Rattle.ledger.specs.Ledgers.{none≢some, put_held, put_new}
 

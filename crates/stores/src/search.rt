@@ -10,9 +10,9 @@ use std::cmp::Ordering;
 
 // The row at `i`, one of the first `len`.
 pub fn row_at<R: TableRow>(cells: &[R::Cell], len: usize, i: usize) -> R
-    requires table { Tabled R.Row R.TableRow cells.now len }
+    requires table { Tabled R.Row R.TableRow.own cells.now len }
     requires within { i < len }
-    ensures { slice_get (rows_in_part R.TableRow cells.now len) i ≡ Some result }
+    ensures { slice_get (rows_in_part R.TableRow.own cells.now len) i ≡ Some result }
 {
     match R::from_cell(cells[i]) {
         Some(row) => row,
@@ -22,8 +22,8 @@ pub fn row_at<R: TableRow>(cells: &[R::Cell], len: usize, i: usize) -> R
 
 // Where the key stands, or where it belongs.
 pub fn search<R: TableRow>(cells: &[R::Cell], len: usize, key: R::Key) -> Result<usize, usize>
-    requires { Tabled R.Row R.TableRow cells.now len }
-    ensures found { result ≡ place R.Row.keys key (rows_in_part R.TableRow cells.now len) }
+    requires { Tabled R.Row R.TableRow.own cells.now len }
+    ensures found { result ≡ place R.Row.keys key (rows_in_part R.TableRow.own cells.now len) }
     ensures within { MatchResult result (λ i. i < len) (λ i. i ≤ len) }
 {
     let mut low = 0;
@@ -51,8 +51,8 @@ pub fn insert_cell<C: Copy>(cells: &mut [C], len: usize, at: usize, cell: C)
 
 // The row with this key.
 pub fn find_row<R: TableRow>(cells: &mut [R::Cell], len: usize, key: R::Key) -> Option<R>
-    requires { Tabled R.Row R.TableRow cells.old len }
-    ensures found { result ≡ find_row R.Row.keys key (rows_in_part R.TableRow cells.old len) }
+    requires { Tabled R.Row R.TableRow.own cells.old len }
+    ensures found { result ≡ find_row R.Row.keys key (rows_in_part R.TableRow.own cells.old len) }
     ensures same { cells.new ≡ cells.old }
 {
     match search::<R>(cells, len, key) {
@@ -63,8 +63,8 @@ pub fn find_row<R: TableRow>(cells: &mut [R::Cell], len: usize, key: R::Key) -> 
 
 // The index of the first row, or of the first above a key.
 fn next_at<R: TableRow>(cells: &[R::Cell], len: usize, after: &Option<R::Key>) -> usize
-    requires { Tabled R.Row R.TableRow cells.now len }
-    ensures { slice_get (rows_in_part R.TableRow cells.now len) result ≡ next_row R.Row.keys after.now (rows_in_part R.TableRow cells.now len) }
+    requires { Tabled R.Row R.TableRow.own cells.now len }
+    ensures { slice_get (rows_in_part R.TableRow.own cells.now len) result ≡ next_row R.Row.keys after.now (rows_in_part R.TableRow.own cells.now len) }
 {
     let Some(key) = after else {
         return 0;
@@ -77,8 +77,8 @@ fn next_at<R: TableRow>(cells: &[R::Cell], len: usize, after: &Option<R::Key>) -
 
 // The first row, or the first above a key.
 pub fn next_row<R: TableRow>(cells: &mut [R::Cell], len: usize, after: &Option<R::Key>) -> Option<R>
-    requires { Tabled R.Row R.TableRow cells.old len }
-    ensures found { result ≡ next_row R.Row.keys after.now (rows_in_part R.TableRow cells.old len) }
+    requires { Tabled R.Row R.TableRow.own cells.old len }
+    ensures found { result ≡ next_row R.Row.keys after.now (rows_in_part R.TableRow.own cells.old len) }
     ensures same { cells.new ≡ cells.old }
 {
     let at = next_at::<R>(cells, len, after);
@@ -91,8 +91,8 @@ pub fn next_row<R: TableRow>(cells: &mut [R::Cell], len: usize, after: &Option<R
 
 // Joins the row to the one of its key or inserts it, and answers the number of rows.
 pub fn put_row<R: TableRow>(cells: &mut [R::Cell], len: usize, row: R) -> Result<usize, Full<R>>
-    requires { Tabled R.Row R.TableRow cells.old len }
-    ensures { Put R.Row R.TableRow row cells.old len cells.new result }
+    requires { Tabled R.Row R.TableRow.own cells.old len }
+    ensures { Put R.Row R.TableRow.own row cells.old len cells.new result }
 {
     match search::<R>(cells, len, row.key()) {
         Ok(at) => {

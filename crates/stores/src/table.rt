@@ -16,8 +16,8 @@ pub struct TableStore<'a, R: TableRow> {
 impl<'a, R: TableRow> TableStore<'a, R> {
     // An empty store that holds at most one row for each cell.
     pub fn new(cells: &'a mut [R::Cell]) -> TableStore<'a, R>
-        ensures empty { ledger_in R.TableRow result.cells.now result.len ≡ record { rows = []; most = length cells.old } }
-        ensures kept { Kept R.Row.keys (ledger_in R.TableRow result.cells.now result.len) (Tabled R.Row R.TableRow result.cells.now result.len) }
+        ensures empty { ledger_in R.TableRow.own result.cells.now result.len ≡ record { rows = []; most = length cells.old } }
+        ensures kept { Kept R.Row.keys (ledger_in R.TableRow.own result.cells.now result.len) (Tabled R.Row R.TableRow.own result.cells.now result.len) }
     {
         TableStore { cells, len: 0 }
     }
@@ -26,9 +26,9 @@ impl<'a, R: TableRow> TableStore<'a, R> {
 impl<'a, R: TableRow> RowStore for TableStore<'a, R> {
     type Row = R;
 
-    ghost ledger = { λ s. ledger_in R.TableRow s.cells.now s.len };
+    ghost ledger = { λ s. ledger_in R.TableRow.own s.cells.now s.len };
 
-    ghost kept = { λ s. Tabled R.Row R.TableRow s.cells.now s.len };
+    ghost kept = { λ s. Tabled R.Row R.TableRow.own s.cells.now s.len };
 
     fn find(&mut self, key: R::Key) -> Option<R> {
         let len = self.len;

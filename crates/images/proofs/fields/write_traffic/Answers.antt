@@ -10,7 +10,7 @@ unfolding traffic_bytes
 returns c =
     let room = c.requires in
     let long = length_places 10 48 12 c.args.traffic.calls in
-    c.write-number-2.ensures
-    ∙ ap (λ n. written (c.args.at + 12) (write_decimal 13 n) c.write-number.new.out) c.tenths.ensures
-    ∙ ap (written (c.args.at + 12) (write_decimal 13 c.args.traffic.tenths)) (c.write-number.ensures ∙ ap (λ n. written c.args.at (write_decimal 12 n) c.args.out.now) c.calls.ensures)
+    c.write_number-2.ensures
+    ∙ ap (λ n. written (c.args.at + 12) (write_decimal 13 n) c.write_number.new.out) c.tenths.ensures
+    ∙ ap (written (c.args.at + 12) (write_decimal 13 c.args.traffic.tenths)) (c.write_number.ensures ∙ ap (λ n. written c.args.at (write_decimal 12 n) c.args.out.now) c.calls.ensures)
     ∙ written_on c.args.at (c.args.at + 12) (write_decimal 12 c.args.traffic.calls) (write_decimal 13 c.args.traffic.tenths) c.args.out.now (omega arith) (omega arith)

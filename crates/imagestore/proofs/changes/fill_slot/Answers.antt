@@ -6,4 +6,4 @@ pub returns : goal.returns
 returns g c =
     let m = g.met.R.ImageRow in
     slot_filled c.args.width g.R.ImageRow.width c.args.i (g.R.ImageRow.bytes_of c.args.row) c.args.bytes.now c.write-row.new.out _ c.requires.width
-    (bytes_long g.row.R-Row g.R.ImageRow g.met.R.Row.ordered g.met.R.Row.joins m.sized m.read c.args.row) c.requires.room c.write-row.ensures
+    (bytes_long g.R.Row g.R.ImageRow g.met.R.Row.ordered g.met.R.Row.joins m.sized m.read c.args.row) c.requires.room c.write-row.ensures

@@ -8,7 +8,7 @@ use Rattle.imagestore.proofs.changes.put_row.Goals as goal
 
 pub returns-in-Some : goal.returns-in-Some
 returns-in-Some g c =
-    let row = g.row.R-Row in
+    let row = g.R.Row in
     let image = g.R.ImageRow in
     let r = c.args.row in
     let bs = c.args.bytes.now in
@@ -27,7 +27,7 @@ returns-in-Some g c =
 
 pub returns-in-None : goal.returns-in-None
 returns-in-None g c =
-    let row = g.row.R-Row in
+    let row = g.R.Row in
     let image = g.R.ImageRow in
     let r = c.args.row in
     let bs = c.args.bytes.now in

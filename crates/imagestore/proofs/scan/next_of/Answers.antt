@@ -8,8 +8,8 @@ use Rattle.imagestore.proofs.scan.next_of.Goals as goal
 
 pub loop-i-preserved : goal.loop-i-preserved
 loop-i-preserved g c =
-    let o = g.row.R-Row.keys in
-    let join = g.row.R-Row.joined in
+    let o = g.R.Row.keys in
+    let join = g.R.Row.joined in
     let at = row_at g.R.ImageRow c.args.bytes.now in
     let after = c.args.after.now in
     let t = c.loop-i-test.true in (
@@ -22,8 +22,8 @@ loop-i-preserved g c =
 
 pub returns : goal.returns
 returns g c =
-    let o = g.row.R-Row.keys in
-    let join = g.row.R-Row.joined in
+    let o = g.R.Row.keys in
+    let join = g.R.Row.joined in
     let at = row_at g.R.ImageRow c.args.bytes.now in
     let l = c.loop-i-test.false in
     let m = c.loop-i.invariant.1 in

@@ -5,7 +5,7 @@ use Rattle.imagestore.proofs.scan.size_of.Goals as goal
 pub returns : goal.returns
 returns g c =
     let m = g.met.R.ImageRow in
-    let e = counted g.row.R-Row g.R.ImageRow g.met.R.Row.ordered g.met.R.Row.joins m.sized m.read c.args.bytes.now c.requires.own_kept in
+    let e = counted g.R.Row g.R.ImageRow g.met.R.Row.ordered g.met.R.Row.joins m.sized m.read c.args.bytes.now c.requires.own_kept in
     record {
       answer = λ i. record { rows = (c.rows-in.ensures.value ∙ sym e) i; most = c.most-rows.ensures i };
       same = refl;

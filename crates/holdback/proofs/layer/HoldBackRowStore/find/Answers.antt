@@ -3,26 +3,26 @@ use Rattle.ledger.specs.Ledger.{join_to}
 use Rattle.holdback.proofs.LayerLaws.{find_joined, find_other}
 use Rattle.holdback.proofs.layer.HoldBackRowStore.find.Goals as goal
 
-pub returns-then-has-key : goal.returns-then-has-key
-returns-then-has-key g c =
-    let q = g.row.S-Row-Row in
+pub returns-then-has_key : goal.returns-then-has_key
+returns-then-has_key g c =
+    let q = g.S.Row.Row in
     let m = g.met.S.Row.Row in
     let s = c.args.self.now in
     record {
       answer =
-          ap Some (c.join-to.ensures ∙ ap (λ x. join_to q.joined x c.in-Some.held) c.find-found.ensures.answer)
-          ∙ find_joined q.keys m.ordered q.joined m.joins (g.S.RowStore.ledger s.below) c.requires.own_kept.below.rising s.held c.in-Some.held c.in-Some.is c.args.key (sym c.has_key_lem.ensures ∙ c.if-has-key.true);
+          ap Some (c.join_to.ensures ∙ ap (λ x. join_to q.joined x c.in-Some.held) c.find-found.ensures.answer)
+          ∙ find_joined q.keys m.ordered q.joined m.joins (g.S.RowStore.ledger s.below) c.requires.own_kept.below.rising s.held c.in-Some.held c.in-Some.is c.args.key (sym c.has_key.ensures ∙ c.if-has_key.true);
       same = ap (λ x. record { below = x; held = s.held }) c.find-found.ensures.same;
     }
 
-pub returns-else-has-key : goal.returns-else-has-key
-returns-else-has-key g c =
-    let q = g.row.S-Row-Row in
+pub returns-else-has_key : goal.returns-else-has_key
+returns-else-has_key g c =
+    let q = g.S.Row.Row in
     let m = g.met.S.Row.Row in
     let s = c.args.self.now in
     record {
       answer =
           c.find-found.ensures.answer
-          ∙ find_other q.keys m.ordered q.joined m.joins (g.S.RowStore.ledger s.below) c.requires.own_kept.below.rising s.held c.args.key (sym c.has_key_lem.ensures ∙ c.if-has-key.false);
+          ∙ find_other q.keys m.ordered q.joined m.joins (g.S.RowStore.ledger s.below) c.requires.own_kept.below.rising s.held c.args.key (sym c.has_key.ensures ∙ c.if-has_key.false);
       same = ap (λ x. record { below = x; held = s.held }) c.find-found.ensures.same;
     }

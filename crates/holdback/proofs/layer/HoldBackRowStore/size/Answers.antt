@@ -5,7 +5,7 @@ use Rattle.holdback.proofs.layer.HoldBackRowStore.size.Goals as goal
 
 pub returns-in-Some-find : goal.returns-in-Some-find
 returns-in-Some-find g c =
-    let q = g.row.S-Row-Row in
+    let q = g.S.Row.Row in
     let m = g.met.S.Row.Row in
     let s = c.args.self.now in
     let below = g.S.RowStore.ledger s.below in
@@ -19,7 +19,7 @@ returns-in-Some-find g c =
 
 pub returns-in-None : goal.returns-in-None
 returns-in-None g c =
-    let q = g.row.S-Row-Row in
+    let q = g.S.Row.Row in
     let m = g.met.S.Row.Row in
     let s = c.args.self.now in
     let below = g.S.RowStore.ledger s.below in
