@@ -6,9 +6,9 @@ use Rattle.agreement.proofs.RowLaws.{row_fits}
 use Rattle.agreement.proofs.ScenarioLaws.{key_long, keys_rise_here, scenario_none, scenario_at}
 use Rattle.agreement.proofs.lookup.find_scenario.Goals as goal
 
-pub last-match-requires : goal.last-match-requires
-last-match-requires c =
-    let bytes = bytes_are c.args.body.now (λ i. omega (arith, c.type-inv.body i)) in
+pub last_match-requires : goal.last_match-requires
+last_match-requires c =
+    let bytes = bytes_are c.args.body.now (λ i. omega (arith, c.type_inv.body i)) in
     let l = key_long c.args.body.now c.args.descriptor c.requires bytes c.bytes-key.result c.bytes-key.ensures in
     record {
       some = omega arith;
@@ -17,18 +17,18 @@ last-match-requires c =
       part = omega arith;
     }
 
-pub row-at-row-requires : goal.row-at-row-requires
-row-at-row-requires c = row_fits (length c.args.body.now) 14 c.in-ok-i.i c.in-ok-i.ensures.within
+pub row_at-row-requires : goal.row_at-row-requires
+row_at-row-requires c = row_fits (length c.args.body.now) 14 c.in_ok-i.i c.in_ok-i.ensures.within
 
-pub returns-in-err-i : goal.returns-in-err-i
-returns-in-err-i c =
-    let bytes = bytes_are c.args.body.now (λ i. omega (arith, c.type-inv.body i)) in
-    c.from-residual.ensures
-    ∙ sym (scenario_none c.args.body.now c.args.descriptor c.requires bytes c.bytes-key.result c.bytes-key.ensures c.in-err-i.ensures)
+pub returns-in_err-i : goal.returns-in_err-i
+returns-in_err-i c =
+    let bytes = bytes_are c.args.body.now (λ i. omega (arith, c.type_inv.body i)) in
+    c.from_residual.ensures
+    ∙ sym (scenario_none c.args.body.now c.args.descriptor c.requires bytes c.bytes-key.result c.bytes-key.ensures c.in_err-i.ensures)
 
 pub returns : goal.returns
 returns c =
-    let bytes = bytes_are c.args.body.now (λ i. omega (arith, c.type-inv.body i)) in
-    c.read-scenario.ensures
-    ∙ ap (λ v. scenario_in (between 5 14 v)) c.row-at-row.ensures.value
-    ∙ sym (scenario_at c.args.body.now c.args.descriptor c.requires bytes c.bytes-key.result c.bytes-key.ensures c.in-ok-i.i c.in-ok-i.ensures)
+    let bytes = bytes_are c.args.body.now (λ i. omega (arith, c.type_inv.body i)) in
+    c.read_scenario.ensures
+    ∙ ap (λ v. scenario_in (between 5 14 v)) c.row_at-row.ensures.value
+    ∙ sym (scenario_at c.args.body.now c.args.descriptor c.requires bytes c.bytes-key.result c.bytes-key.ensures c.in_ok-i.i c.in_ok-i.ensures)

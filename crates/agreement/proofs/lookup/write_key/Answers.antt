@@ -5,8 +5,8 @@ use Rattle.agreement.proofs.lookup.write_key.Goals as goal
 
 pub returns : goal.returns
 returns c =
-    key_written 10 48 c.args.out.now c.write-be.new.out c.write-be-2.new.out c.write-decimal.new.out c.number.result c.number-2.result c.number-3.result c.requires
-    c.write-be.ensures c.write-be-2.ensures c.write-decimal.ensures.after
+    key_written 10 48 c.args.out.now c.write_be.new.out c.write_be-2.new.out c.write_decimal.new.out c.number.result c.number-2.result c.number-3.result c.requires
+    c.write_be.ensures c.write_be-2.ensures c.write_decimal.ensures.after
     ∙ ap (λ v. bytes_of 10 v ++ (bytes_of 5 c.number-2.result ++ write_decimal 8 c.number-3.result)) c.number.ensures
     ∙ ap (λ v. bytes_of 10 c.args.point.number ++ (bytes_of 5 v ++ write_decimal 8 c.number-3.result)) c.number-2.ensures
     ∙ ap (λ v. bytes_of 10 c.args.point.number ++ (bytes_of 5 c.args.descriptor.number ++ write_decimal 8 v)) c.number-3.ensures

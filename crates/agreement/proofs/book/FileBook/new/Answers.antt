@@ -8,16 +8,16 @@ unfolding scenarios_in tariffs_in
 returns-in-Ok c = record {
   scenarios =
       ap scenario_table
-      (c.of-bodies.ensures.scenarios
+      (c.of_bodies.ensures.scenarios
       ∙ ap (λ (v : Bodies). v.scenarios)
-      (bodies_by c.args.bytes.now c.in-Ok.sizes c.in-Ok.ensures.value c.parties-in.result.now c.scenarios-in.result.now c.tariffs-in.result.now
-      c.parties-in.ensures.value c.scenarios-in.ensures c.tariffs-in.ensures));
+      (bodies_by c.args.bytes.now c.in-Ok.sizes c.in-Ok.ensures.value c.parties_in.result.now c.scenarios_in.result.now c.tariffs_in.result.now
+      c.parties_in.ensures.value c.scenarios_in.ensures c.tariffs_in.ensures));
   tariffs =
       ap tariff_table
-      (c.of-bodies.ensures.tariffs
+      (c.of_bodies.ensures.tariffs
       ∙ ap (λ (v : Bodies). v.tariffs)
-      (bodies_by c.args.bytes.now c.in-Ok.sizes c.in-Ok.ensures.value c.parties-in.result.now c.scenarios-in.result.now c.tariffs-in.result.now
-      c.parties-in.ensures.value c.scenarios-in.ensures c.tariffs-in.ensures));
+      (bodies_by c.args.bytes.now c.in-Ok.sizes c.in-Ok.ensures.value c.parties_in.result.now c.scenarios_in.result.now c.tariffs_in.result.now
+      c.parties_in.ensures.value c.scenarios_in.ensures c.tariffs_in.ensures));
 }
 
 pub returns-in-Err : goal.returns-in-Err
