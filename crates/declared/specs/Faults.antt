@@ -1,7 +1,6 @@
 -- Number and place of each refusal of the reader.
 use Rattle.std.specs.Prelude.{ℕ}
 use Rattle.declared.specs.declared.faults.Place.{Place}
-use Rattle.declared.specs.declared.faults.Place.TheVariants as Place
 use Rattle.declared.specs.declared.faults.ReadFault.{ReadFault}
 use Rattle.declared.specs.declared.faults.ReadFault.TheVariants.{Length, Malformed, Unsound}
 

@@ -3,7 +3,7 @@ use Rattle.std.proofs.Common.{◌≡◌, ℕ, zero, suc, ◌+◌, ◌-◌, ◌<�
 use Rattle.std.proofs.lemmas.Bool.Decides.{nat_tests}
 use Rattle.statement.specs.declared.board.RefusalBoard.{RefusalBoard}
 use Rattle.statement.specs.declared.board.Tally.{Tally}
-use Rattle.statement.specs.Board.{no_tally, clear_board, noted, noted_tally, tally_at, lesser_of, tallies_joined, each_joined, boards_joined}
+use Rattle.statement.specs.Board.{no_tally, clear_board, noted, tally_at, lesser_of, tallies_joined, each_joined, boards_joined}
 
 -- what holds of the new element and of the old one holds after the write
 pub set_keeps : {A : Type 0} (P : A → Type 0) (xs : List A) (j i : ℕ) (v d : A) → P v → P (get_or xs i d) → P (get_or (set xs j v) i d)

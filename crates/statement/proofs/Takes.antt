@@ -1,13 +1,13 @@
 -- What a take comes to, step by step.
-use Rattle.std.proofs.Common.{◌≡◌, ℕ, ◌+◌, ◌<◌, ◌≤◌, Bool, true, false, cond, ◌&&◌, leb, List, Ok, Err, Result, sym, refl, ap, ◌∙◌, arith}
-use Rattle.std.proofs.lemmas.Bool.{cond-true, cond-false, lt-leb, and_from, and_left, and_right, true≢false}
+use Rattle.std.proofs.Common.{◌≡◌, ℕ, ◌<◌, ◌≤◌, Bool, true, false, ◌&&◌, List, Ok, Err, Result, sym, refl, ap, ◌∙◌, arith}
+use Rattle.std.proofs.lemmas.Bool.{cond-true, cond-false, lt-leb, and_right}
 use Rattle.cdr.specs.Faults.{charge, record_number}
 use Rattle.cdr.specs.Reader.{read_record}
 use Rattle.cdr.specs.declared.call.CallRecord.{CallRecord}
 use Rattle.cdr.specs.declared.faults.Charged.{Charged}
 use Rattle.cdr.specs.declared.faults.RecordFault.{RecordFault}
 use Rattle.cdr.specs.declared.faults.RecordFault.TheVariants.{Length, Malformed, Category, Selection, Sliced, Cause}
-use Rattle.ledger.specs.Ledger.{Ledger, takes, placed}
+use Rattle.ledger.specs.Ledger.{takes, placed}
 use Rattle.ledger.specs.Rows.{line_keys, day_keys}
 use Rattle.ledger.specs.declared.day.DayRow.{DayRow}
 use Rattle.ledger.specs.declared.line.LineRow.{LineRow}
@@ -21,7 +21,6 @@ use Rattle.statement.specs.declared.faults.StoreFault.{StoreFault}
 use Rattle.statement.specs.declared.faults.StoreFault.TheVariants.{LinesFull, DaysFull}
 use Rattle.statement.specs.declared.faults.TakeFault.{TakeFault}
 use Rattle.statement.specs.declared.faults.TakeFault.TheVariants.{Record, Rating, Store}
-use Rattle.statement.specs.declared.posting.Booked.{Booked}
 use Rattle.statement.specs.declared.posting.Posting.{Posting}
 use Rattle.statement.specs.declared.statement.Statement.{Statement}
 use Rattle.statement.specs.Faults.{store_number, take_number}

@@ -1,5 +1,5 @@
 -- The board of refusals: tallies for the numbers 2 to 13.
-use Rattle.std.specs.Prelude.{ℕ, ◌+◌, ◌-◌, min, Bool, cond, ◌||◌, List, [], ◌∷◌, replicate, Some, None, Option, ◌==◌, nat_lt, slice_index_or, slice_set}
+use Rattle.std.specs.Prelude.{ℕ, ◌+◌, ◌-◌, min, cond, ◌||◌, List, [], ◌∷◌, replicate, Some, None, Option, ◌==◌, nat_lt, slice_index_or, slice_set}
 use Rattle.statement.specs.declared.board.Tally.{Tally}
 use Rattle.statement.specs.declared.board.RefusalBoard.{RefusalBoard}
 

@@ -1,5 +1,5 @@
 -- Two statements joined: what is answered, and what becomes of the receiver and of the giver.
-use Rattle.std.specs.Prelude.{ℕ, ◌+◌, Bool, cond, ◌&&◌, List, [], ◌∷◌, length, Some, None, Ok, Err, Option, Result, ◌==◌, nat_le}
+use Rattle.std.specs.Prelude.{ℕ, ◌+◌, Bool, cond, ◌&&◌, List, length, Some, None, Ok, Err, Option, Result, ◌==◌, nat_le}
 use Rattle.ledger.specs.Ledger.{with_rows}
 use Rattle.ledger.specs.Rows.{line_keys, join_lines, day_keys, join_days}
 use Rattle.ledger.specs.declared.day.DayRow.{DayRow}

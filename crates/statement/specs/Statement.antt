@@ -1,5 +1,5 @@
 -- A statement by its model, and what opening and taking make of it.
-use Rattle.std.specs.Prelude.{◌≡◌, ℕ, ◌+◌, ◌≤◌, Bool, true, false, cond, ◌&&◌, List, [], Ok, Err, Result, nat_le}
+use Rattle.std.specs.Prelude.{ℕ, ◌+◌, ◌≤◌, Bool, true, false, cond, ◌&&◌, List, [], Ok, Err, Result, nat_le}
 use Rattle.cdr.specs.Faults.{charge}
 use Rattle.cdr.specs.Reader.{read_record}
 use Rattle.ledger.specs.Ledger.{Ledger, Kept as StoreKept, takes, put_in}

@@ -9,38 +9,38 @@ use Rattle.declared.proofs.LineReads.{file_reads}
 use Rattle.declared.proofs.ReadLaws.{no_lines, not_formed, not_sound, accepted}
 use Rattle.declared.proofs.file.read.Goals as goal
 
-pub returns-in-err-check-length : goal.returns-in-err-check-length
-returns-in-err-check-length c =
-    let p = err_from_is_err_and c.from-residual.result c.from-residual.ensures.1 in
+pub returns-in_err-check_length : goal.returns-in_err-check_length
+returns-in_err-check_length c =
+    let p = err_from_is_err_and c.from_residual.result c.from_residual.ensures.1 in
     record {
-      value = rw (p.1, p.2) (no_lines c.args.bytes.now _ c.in-err-check-length.ensures.value);
-      back = file_back c.args.bytes.now (bytes_are c.args.bytes.now (λ i. omega (arith, c.type-inv.bytes i)));
+      value = rw (p.1, p.2) (no_lines c.args.bytes.now _ c.in_err-check_length.ensures.value);
+      back = file_back c.args.bytes.now (bytes_are c.args.bytes.now (λ i. omega (arith, c.type_inv.bytes i)));
       reads = file_reads;
     }
 
-pub returns-in-err-check-fields : goal.returns-in-err-check-fields
-returns-in-err-check-fields c =
-    let p = err_from_is_err_and c.from-residual-in-err-check-fields.result c.from-residual-in-err-check-fields.ensures.1 in
+pub returns-in_err-check_fields : goal.returns-in_err-check_fields
+returns-in_err-check_fields c =
+    let p = err_from_is_err_and c.from_residual-in_err-check_fields.result c.from_residual-in_err-check_fields.ensures.1 in
     record {
-      value = rw (p.1, p.2) (not_formed c.args.bytes.now c.in-ok-check-length.ensures.value _ c.in-err-check-fields.ensures);
-      back = file_back c.args.bytes.now (bytes_are c.args.bytes.now (λ i. omega (arith, c.type-inv.bytes i)));
+      value = rw (p.1, p.2) (not_formed c.args.bytes.now c.in_ok-check_length.ensures.value _ c.in_err-check_fields.ensures);
+      back = file_back c.args.bytes.now (bytes_are c.args.bytes.now (λ i. omega (arith, c.type_inv.bytes i)));
       reads = file_reads;
     }
 
-pub returns-in-err-check-lines : goal.returns-in-err-check-lines
-returns-in-err-check-lines c =
-    let p = err_from_is_err_and c.from-residual-in-err-check-lines.result c.from-residual-in-err-check-lines.ensures.1 in
+pub returns-in_err-check_lines : goal.returns-in_err-check_lines
+returns-in_err-check_lines c =
+    let p = err_from_is_err_and c.from_residual-in_err-check_lines.result c.from_residual-in_err-check_lines.ensures.1 in
     record {
-      value = rw (p.1, p.2) (not_sound c.args.bytes.now c.in-ok-check-length.ensures.value c.in-ok-check-fields.ensures _ c.in-err-check-lines.ensures);
-      back = file_back c.args.bytes.now (bytes_are c.args.bytes.now (λ i. omega (arith, c.type-inv.bytes i)));
+      value = rw (p.1, p.2) (not_sound c.args.bytes.now c.in_ok-check_length.ensures.value c.in_ok-check_fields.ensures _ c.in_err-check_lines.ensures);
+      back = file_back c.args.bytes.now (bytes_are c.args.bytes.now (λ i. omega (arith, c.type_inv.bytes i)));
       reads = file_reads;
     }
 
 pub returns : goal.returns
 returns c = record {
   value =
-      ap (λ (h : Head). Ok (record { head = h; lines = shown_in c.args.bytes.now })) (c.read-head-head.ensures ∙ ap head_in c.line-at.ensures.value)
-      ∙ accepted c.args.bytes.now c.in-ok-check-length.ensures.value c.in-ok-check-fields.ensures c.in-ok-check-lines.ensures;
-  back = file_back c.args.bytes.now (bytes_are c.args.bytes.now (λ i. omega (arith, c.type-inv.bytes i)));
+      ap (λ (h : Head). Ok (record { head = h; lines = shown_in c.args.bytes.now })) (c.read_head-head.ensures ∙ ap head_in c.line_at.ensures.value)
+      ∙ accepted c.args.bytes.now c.in_ok-check_length.ensures.value c.in_ok-check_fields.ensures c.in_ok-check_lines.ensures;
+  back = file_back c.args.bytes.now (bytes_are c.args.bytes.now (λ i. omega (arith, c.type_inv.bytes i)));
   reads = file_reads;
 }

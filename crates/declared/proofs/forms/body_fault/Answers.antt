@@ -4,14 +4,14 @@ use Rattle.declared.specs.Forms.{first_malformed, total_forms, detail_forms, is_
 use Rattle.declared.specs.declared.forms.FieldForm.{FieldForm}
 use Rattle.declared.proofs.forms.body_fault.Goals as goal
 
-pub returns-then-is-total : goal.returns-then-is-total
-returns-then-is-total c =
-    c.first-malformed.ensures
+pub returns-then-is_total : goal.returns-then-is_total
+returns-then-is_total c =
+    c.first_malformed.ensures
     ∙ ap (λ (fs : List FieldForm). first_malformed c.args.heading.now c.args.line.now fs)
-    (c.total-forms.ensures ∙ sym (cond-true (is_total c.args.line.now) total_forms detail_forms (sym c.if-is-total.ensures)))
+    (c.total_forms.ensures ∙ sym (cond-true (is_total c.args.line.now) total_forms detail_forms (sym c.if-is_total.ensures)))
 
-pub returns-else-is-total : goal.returns-else-is-total
-returns-else-is-total c =
-    c.first-malformed-else-is-total.ensures
+pub returns-else-is_total : goal.returns-else-is_total
+returns-else-is_total c =
+    c.first_malformed-else-is_total.ensures
     ∙ ap (λ (fs : List FieldForm). first_malformed c.args.heading.now c.args.line.now fs)
-    (c.detail-forms.ensures ∙ sym (cond-false (is_total c.args.line.now) total_forms detail_forms (sym c.if-is-total.ensures)))
+    (c.detail_forms.ensures ∙ sym (cond-false (is_total c.args.line.now) total_forms detail_forms (sym c.if-is_total.ensures)))

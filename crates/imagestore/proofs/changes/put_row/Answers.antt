@@ -15,14 +15,14 @@ returns-in-Some g c =
     let n = row_count image.width bs in
     let at = row_at image bs in
     let place : place_of row.keys (row.keys.key_of r) at n ≡ Some c.in-Some.i =
-    sym (c.in-Some.ensures.value ∙ ap (λ k. place_of row.keys k at c.rows-in-count.result) c.key.ensures ∙ ap (place_of row.keys (row.keys.key_of r) at) c.rows-in-count.ensures.value) in
+    sym (c.in-Some.ensures.value ∙ ap (λ k. place_of row.keys k at c.rows_in-count.result) c.key.ensures ∙ ap (place_of row.keys (row.keys.key_of r) at) c.rows_in-count.ensures.value) in
     let left = left_joined row image g.met.R.Row.ordered g.met.R.Row.joins g.met.R.ImageRow.sized g.met.R.ImageRow.read bs c.requires r c.in-Some.i place in
     record {
       answer = left.answer;
-      bytes = c.join-at.ensures ∙ sym (ap (put_at row image bs r n) place);
-      after = ap (image_ledger row image) c.join-at.ensures ∙ left.after;
+      bytes = c.join_at.ensures ∙ sym (ap (put_at row image bs r n) place);
+      after = ap (image_ledger row image) c.join_at.ensures ∙ left.after;
       same = tt;
-      kept = subst (KeptImage row image) (sym c.join-at.ensures) left.kept;
+      kept = subst (KeptImage row image) (sym c.join_at.ensures) left.kept;
     }
 
 pub returns-in-None : goal.returns-in-None
@@ -36,10 +36,10 @@ returns-in-None g c =
     let most = most_in image.width bs in
     let new = cond (ltb n most) (appended image bs n r) bs in
     let place : place_of row.keys (row.keys.key_of r) at n ≡ None =
-    sym (c.in-None.ensures.value ∙ ap (λ k. place_of row.keys k at c.rows-in-count.result) c.key.ensures ∙ ap (place_of row.keys (row.keys.key_of r) at) c.rows-in-count.ensures.value) in
+    sym (c.in-None.ensures.value ∙ ap (λ k. place_of row.keys k at c.rows_in-count.result) c.key.ensures ∙ ap (place_of row.keys (row.keys.key_of r) at) c.rows_in-count.ensures.value) in
     let left = left_new row image g.met.R.Row.ordered g.met.R.Row.joins g.met.R.ImageRow.sized g.met.R.ImageRow.read bs c.requires r place in
-    let is : c.put_new.new.bytes ≡ new = c.put_new.ensures.bytes ∙ ap (λ m. cond (ltb m most) (appended image bs m r) bs) c.rows-in-count.ensures.value in
-    let gives : c.put_new.result ≡ placed r (ltb n most) = c.put_new.ensures.answer ∙ ap (λ m. placed r (ltb m most)) c.rows-in-count.ensures.value in
+    let is : c.put_new.new.bytes ≡ new = c.put_new.ensures.bytes ∙ ap (λ m. cond (ltb m most) (appended image bs m r) bs) c.rows_in-count.ensures.value in
+    let gives : c.put_new.result ≡ placed r (ltb n most) = c.put_new.ensures.answer ∙ ap (λ m. placed r (ltb m most)) c.rows_in-count.ensures.value in
     record {
       answer = gives ∙ left.answer;
       bytes = is ∙ sym (ap (put_at row image bs r n) place);

@@ -8,16 +8,16 @@ use Rattle.imagestore.proofs.scan.find_row.Goals as goal
 pub returns-in-Some : goal.returns-in-Some
 returns-in-Some g c = record {
   answer =
-      c.row-at.ensures
-      ∙ found_at g.R.Row.keys g.met.R.Row.ordered g.R.Row.joined g.met.R.Row.joins (row_at g.R.ImageRow c.args.bytes.now) c.args.key c.rows-in-count.result
-      (row_count g.R.ImageRow.width c.args.bytes.now) (counted g.R.Row g.R.ImageRow g.met.R.Row.ordered g.met.R.Row.joins g.met.R.ImageRow.sized g.met.R.ImageRow.read c.args.bytes.now c.requires.own_kept) c.rows-in-count.ensures.value (Some c.in-Some.at) c.in-Some.ensures.value;
+      c.row_at.ensures
+      ∙ found_at g.R.Row.keys g.met.R.Row.ordered g.R.Row.joined g.met.R.Row.joins (row_at g.R.ImageRow c.args.bytes.now) c.args.key c.rows_in-count.result
+      (row_count g.R.ImageRow.width c.args.bytes.now) (counted g.R.Row g.R.ImageRow g.met.R.Row.ordered g.met.R.Row.joins g.met.R.ImageRow.sized g.met.R.ImageRow.read c.args.bytes.now c.requires.own_kept) c.rows_in-count.ensures.value (Some c.in-Some.at) c.in-Some.ensures.value;
   same = refl;
 }
 
 pub returns-in-None : goal.returns-in-None
 returns-in-None g c = record {
   answer =
-      found_at g.R.Row.keys g.met.R.Row.ordered g.R.Row.joined g.met.R.Row.joins (row_at g.R.ImageRow c.args.bytes.now) c.args.key c.rows-in-count.result
-      (row_count g.R.ImageRow.width c.args.bytes.now) (counted g.R.Row g.R.ImageRow g.met.R.Row.ordered g.met.R.Row.joins g.met.R.ImageRow.sized g.met.R.ImageRow.read c.args.bytes.now c.requires.own_kept) c.rows-in-count.ensures.value None c.in-None.ensures.value;
+      found_at g.R.Row.keys g.met.R.Row.ordered g.R.Row.joined g.met.R.Row.joins (row_at g.R.ImageRow c.args.bytes.now) c.args.key c.rows_in-count.result
+      (row_count g.R.ImageRow.width c.args.bytes.now) (counted g.R.Row g.R.ImageRow g.met.R.Row.ordered g.met.R.Row.joins g.met.R.ImageRow.sized g.met.R.ImageRow.read c.args.bytes.now c.requires.own_kept) c.rows_in-count.ensures.value None c.in-None.ensures.value;
   same = refl;
 }

@@ -13,9 +13,9 @@ loop-i-preserved g c =
     let at = row_at g.R.ImageRow c.args.bytes.now in
     let after = c.args.after.now in
     let t = c.loop-i-test.true in (
-      c.next-with-best.ensures
-          ∙ ap (λ v. next_with o join after v c.row-at.result) c.loop-i.invariant.0
-          ∙ ap (next_with o join after (next_row o after (arrived o join at c.loop-i.i))) c.row-at.ensures
+      c.next_with-best.ensures
+          ∙ ap (λ v. next_with o join after v c.row_at.result) c.loop-i.invariant.0
+          ∙ ap (next_with o join after (next_row o after (arrived o join at c.loop-i.i))) c.row_at.ensures
           ∙ sym (next_more o g.met.R.Row.ordered join g.met.R.Row.joins at after c.loop-i.i),
       omega arith,
     )

@@ -6,7 +6,7 @@ use Rattle.imagestore.proofs.scan.rows_in.Goals as goal
 pub returns : goal.returns
 returns g c =
     let w = g.R.ImageRow.width in
-    let value = c.unwrap-or.ensures ∙ ap (λ v. unwrap_or v 0) c.count-rows.ensures in
+    let value = c.unwrap_or.ensures ∙ ap (λ v. unwrap_or v 0) c.count_rows.ensures in
     record {
       value = value;
       within = subst (λ (n : ℕ). n ≤ most_in w c.args.bytes.now) (sym value) (count_under w c.args.bytes.now);

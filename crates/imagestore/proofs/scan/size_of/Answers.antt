@@ -7,6 +7,6 @@ returns g c =
     let m = g.met.R.ImageRow in
     let e = counted g.R.Row g.R.ImageRow g.met.R.Row.ordered g.met.R.Row.joins m.sized m.read c.args.bytes.now c.requires.own_kept in
     record {
-      answer = λ i. record { rows = (c.rows-in.ensures.value ∙ sym e) i; most = c.most-rows.ensures i };
+      answer = λ i. record { rows = (c.rows_in.ensures.value ∙ sym e) i; most = c.most_rows.ensures i };
       same = refl;
     }

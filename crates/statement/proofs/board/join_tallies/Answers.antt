@@ -1,4 +1,4 @@
-use Rattle.std.proofs.Common.{◌≡◌, ◌+◌, ◌<◌, length, get_or, set, sym, refl, ap, ◌∙◌, subst, arith, length-set, rules}
+use Rattle.std.proofs.Common.{◌≡◌, ◌+◌, ◌<◌, length, get_or, set, sym, ap, ◌∙◌, subst, arith, length-set, rules}
 use Rattle.statement.specs.Board.{no_tally}
 use Rattle.statement.proofs.Boards.{join_from, join_next, join_done, set_other}
 use Rattle.statement.proofs.board.join_tallies.Goals as goal

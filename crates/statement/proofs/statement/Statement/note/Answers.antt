@@ -1,5 +1,4 @@
-use Rattle.std.proofs.Common.{sym, subst, rules}
-use Rattle.statement.specs.Board.{tally_at}
+use Rattle.std.proofs.Common.{rules}
 use Rattle.statement.proofs.Boards.{noted_counts}
 use Rattle.statement.proofs.statement.Statement.note.Goals as goal
 

@@ -1,6 +1,5 @@
 use Rattle.std.proofs.Common.{◌≡◌, arith}
 use Rattle.statement.specs.Statement.{model, opened}
-use Rattle.statement.specs.Board.{tally_at}
 use Rattle.statement.proofs.Boards.{clear_counts}
 use Rattle.statement.proofs.Reached.{reached_opening}
 use Rattle.statement.proofs.statement.Statement.open.Goals as goal

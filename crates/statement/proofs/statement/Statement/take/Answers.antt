@@ -1,4 +1,4 @@
-use Rattle.std.proofs.Common.{◌≡◌, Ok, Err, sym, refl, ap, ◌∙◌, subst, arith}
+use Rattle.std.proofs.Common.{Ok, sym, ap, ◌∙◌, arith}
 use Rattle.rating.specs.Rating.{book_of}
 use Rattle.statement.specs.Statement.{model, counted, with_fault}
 use Rattle.statement.proofs.Reached.{reached_take}
@@ -11,14 +11,14 @@ note-requires g c =
     let after = ap (λ x. x.taken) c.in-Err.ensures.after in
     record {
       kept = c.in-Err.ensures.kept;
-      room = omega (arith, c.if-self-ge-MOST-TAKEN.false, after);
+      room = omega (arith, c.if-self-ge-MOST_TAKEN.false, after);
       counted = verdict_counted m (book_of g.B.TariffBook c.args.book.now) c.args.bytes.now c.in-Err.fault (sym c.in-Err.ensures.answer);
     }
 
 pub returns-in-Ok : goal.returns-in-Ok
 returns-in-Ok g c =
     let m = model g.L.RowStore g.D.RowStore c.args.self.now in
-    let t = take_booked m (book_of g.B.TariffBook c.args.book.now) c.args.bytes.now c.in-Ok.posting c.if-self-ge-MOST-TAKEN.false c.in-Ok.ensures.answer in
+    let t = take_booked m (book_of g.B.TariffBook c.args.book.now) c.args.bytes.now c.in-Ok.posting c.if-self-ge-MOST_TAKEN.false c.in-Ok.ensures.answer in
     let k = c.in-Ok.ensures.kept in
     let after = ap (λ x. x.taken) c.in-Ok.ensures.after in
     let answer = ap Ok c.booked.ensures ∙ sym t.0 in
@@ -30,7 +30,7 @@ returns-in-Ok g c =
       kept = record {
         lines = k.lines;
         days = k.days;
-        taken = omega (arith, c.if-self-ge-MOST-TAKEN.false, after);
+        taken = omega (arith, c.if-self-ge-MOST_TAKEN.false, after);
         counts = λ i. omega (arith, k.counts i);
       };
     }
@@ -38,7 +38,7 @@ returns-in-Ok g c =
 pub returns-in-Err : goal.returns-in-Err
 returns-in-Err g c =
     let m = model g.L.RowStore g.D.RowStore c.args.self.now in
-    let t = take_refused m (book_of g.B.TariffBook c.args.book.now) c.args.bytes.now c.in-Err.fault c.if-self-ge-MOST-TAKEN.false c.in-Err.ensures.answer in
+    let t = take_refused m (book_of g.B.TariffBook c.args.book.now) c.args.bytes.now c.in-Err.fault c.if-self-ge-MOST_TAKEN.false c.in-Err.ensures.answer in
     let after-take = c.note.ensures.after ∙ ap (λ x. with_fault x c.in-Err.fault) c.in-Err.ensures.after ∙ sym t.1 in
     record {
       answer = sym t.0;

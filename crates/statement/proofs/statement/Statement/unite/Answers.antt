@@ -1,4 +1,4 @@
-use Rattle.std.proofs.Common.{◌≡◌, ◌+◌, ◌∙◌, arith}
+use Rattle.std.proofs.Common.{◌+◌, ◌∙◌, arith}
 use Rattle.ledger.specs.Rows.{line_keys, join_lines, day_keys, join_days}
 use Rattle.ledger.specs.RowLaws.{line_order, line_joins, day_order, day_joins}
 use Rattle.merging.proofs.Sizes.{poured_fits}
@@ -34,7 +34,7 @@ returns g c =
         taken = c.requires.taken;
         counts = λ i. rw c.join.ensures (joined_counts r.board given.board _ _ c.requires.receiver.counts c.requires.giver.counts i);
       };
-      kept-giver = record {
+      kept_giver = record {
         lines = c.pour.ensures.giver;
         days = c.pour-2.ensures.giver;
         taken = omega arith;
