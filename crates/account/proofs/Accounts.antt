@@ -124,10 +124,10 @@ joins_right m g a c h i = at (join_answer m g) (states.joins m g)
     at : (x : Result (Unit {0}) JoinFault) → states.Joins m g x → JoinRight m a g c x
     at (Err f) (states.Joins.unlike e) = unlike (λ p q. true≢false (sym (like p q) ∙ e))
     at (Err f) (states.Joins.too_many e u) = let t = same_kind m g e in too_many t.0 t.1 (over u)
-    at (Err f) (states.Joins.lines_full e u v) = let t = same_kind m g e in lines_full_lem t.0 t.1 (within u) (full _ _ m.lines.most lines_size v)
+    at (Err f) (states.Joins.lines_full e u v) = let t = same_kind m g e in lines_full t.0 t.1 (within u) (full _ _ m.lines.most lines_size v)
     at (Err f) (states.Joins.days_full e u v w) =
         let t = same_kind m g e in
-        days_full_lem t.0 t.1 (within u) (fit _ _ m.lines.most lines_size v) (full _ _ m.days.most days_size w)
+        days_full t.0 t.1 (within u) (fit _ _ m.lines.most lines_size v) (full _ _ m.days.most days_size w)
     at (Ok x) (states.Joins.fits e u v w) =
         let t = same_kind m g e in
         joins t.0 t.1 (within u) (fit _ _ m.lines.most lines_size v) (fit _ _ m.days.most days_size w)

@@ -237,8 +237,8 @@ kept_take {m} {a} b r k = go (leb limit m.taken) refl
 pub data Joins (m g : Model) : Result (Unit {0}) JoinFault → Type 0 where
   unlike : is_like m g ≡ false → Joins m g (Err Unlike)
   too_many : is_like m g ≡ true → leb (m.taken + g.taken) limit ≡ false → Joins m g (Err TooMany)
-  lines_full_lem : is_like m g ≡ true → leb (m.taken + g.taken) limit ≡ true → leb (length (lines_together m g)) m.lines.most ≡ false → Joins m g (Err Lines)
-  days_full_lem : is_like m g ≡ true → leb (m.taken + g.taken) limit ≡ true → leb (length (lines_together m g)) m.lines.most ≡ true → leb (length (days_together m g)) m.days.most ≡ false → Joins m g (Err Days)
+  lines_full : is_like m g ≡ true → leb (m.taken + g.taken) limit ≡ true → leb (length (lines_together m g)) m.lines.most ≡ false → Joins m g (Err Lines)
+  days_full : is_like m g ≡ true → leb (m.taken + g.taken) limit ≡ true → leb (length (lines_together m g)) m.lines.most ≡ true → leb (length (days_together m g)) m.days.most ≡ false → Joins m g (Err Days)
   fits : is_like m g ≡ true → leb (m.taken + g.taken) limit ≡ true → leb (length (lines_together m g)) m.lines.most ≡ true → leb (length (days_together m g)) m.days.most ≡ true → Joins m g (Ok tt)
 
 pub joins : (m g : Model) → Joins m g (join_answer m g)
@@ -248,8 +248,8 @@ joins m g = go (is_like m g) (leb (m.taken + g.taken) limit) (leb (length (lines
         → Joins m g (join_answer m g)
     go false u v w e f h i = rw e (unlike e)
     go true false v w e f h i = rw (e, f) (too_many e f)
-    go true true false w e f h i = rw (e, f, h) (lines_full_lem e f h)
-    go true true true false e f h i = rw (e, f, h, i) (days_full_lem e f h i)
+    go true true false w e f h i = rw (e, f, h) (lines_full e f h)
+    go true true true false e f h i = rw (e, f, h, i) (days_full e f h i)
     go true true true true e f h i = rw (e, f, h, i) (fits e f h i)
 
 same_carrier : (a b : Carrier) → a.code ≡ b.code → a ≡ b

@@ -93,9 +93,9 @@ pub data TakeRight (m : Model) (a : List Entry) (b : Book) (r : List ℕ) : Resu
 pub data JoinRight (m : Model) (a : List Entry) (g : Model) (c : List Entry) : Result (Unit {0}) JoinFault → Type 0 where
   unlike : (m.terms ≡ g.terms → m.reference ≢ g.reference) → JoinRight m a g c (Err Unlike)
   too_many : m.terms ≡ g.terms → m.reference ≡ g.reference → limit < length a + length c → JoinRight m a g c (Err TooMany)
-  lines_full_lem : m.terms ≡ g.terms → m.reference ≡ g.reference → length a + length c ≤ limit
+  lines_full : m.terms ≡ g.terms → m.reference ≡ g.reference → length a + length c ≤ limit
       → m.lines.most < distinct line_keys (lines (a ++ c)) → JoinRight m a g c (Err Lines)
-  days_full_lem : m.terms ≡ g.terms → m.reference ≡ g.reference → length a + length c ≤ limit
+  days_full : m.terms ≡ g.terms → m.reference ≡ g.reference → length a + length c ≤ limit
       → distinct line_keys (lines (a ++ c)) ≤ m.lines.most → m.days.most < distinct day_keys (days (a ++ c)) → JoinRight m a g c (Err Days)
   joins : m.terms ≡ g.terms → m.reference ≡ g.reference → length a + length c ≤ limit
       → distinct line_keys (lines (a ++ c)) ≤ m.lines.most → distinct day_keys (days (a ++ c)) ≤ m.days.most → JoinRight m a g c (Ok tt)

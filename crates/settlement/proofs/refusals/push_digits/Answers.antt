@@ -1,4 +1,4 @@
-use Rattle.std.proofs.Common.{◌≡◌, ◌-◌, take, drop, vec_items, ap, ◌∙◌}
+use Rattle.std.proofs.Common.{◌-◌, take, drop, vec_items, ap, ◌∙◌}
 use Rattle.digits.specs.Positional.{write_decimal}
 use Rattle.settlement.proofs.RefusalLaws.{pushed, lowest_of_ten}
 use Rattle.settlement.proofs.refusals.push_digits.Goals as goal
@@ -6,5 +6,5 @@ use Rattle.settlement.proofs.refusals.push_digits.Goals as goal
 pub returns : goal.returns
 returns c =
     let w = c.args.width in
-    pushed c.extend-from-slice.result (vec_items c.args.text.now) (take (10 - (10 - w)) (drop (10 - w) c.ten-digits-digits.result)) (write_decimal w c.args.n) (vec_items c.extend-from-slice.new.self)
-    c.extend-from-slice.ensures.items (ap (λ v. take (10 - (10 - w)) (drop (10 - w) v)) c.ten-digits-digits.ensures ∙ lowest_of_ten w c.args.n c.requires)
+    pushed c.extend_from_slice.result (vec_items c.args.text.now) (take (10 - (10 - w)) (drop (10 - w) c.ten_digits-digits.result)) (write_decimal w c.args.n) (vec_items c.extend_from_slice.new.self)
+    c.extend_from_slice.ensures.items (ap (λ v. take (10 - (10 - w)) (drop (10 - w) v)) c.ten_digits-digits.ensures ∙ lowest_of_ten w c.args.n c.requires)

@@ -5,26 +5,26 @@ use Rattle.rating.specs.Rating.{book_of}
 use Rattle.verdicts.proofs.AcceptedLaws.{asks, file_details, refused_answer, refused_after, given_answer, given_after}
 use Rattle.verdicts.proofs.contesting.contest.Goals as goal
 
-pub returns-in-err-admit : goal.returns-in-err-admit
-returns-in-err-admit g c =
-    let p = err_from_is_err_and c.from-residual-in-err-admit.result c.from-residual-in-err-admit.ensures.1 in
-    let a = asks c.args.out.now (seen_file c.in-ok-file.file) c.in-ok-file.ensures.value c.terms-terms.ensures c.reference-reference.ensures c.head.ensures c.detail-count-count.ensures in
+pub returns-in_err-admit : goal.returns-in_err-admit
+returns-in_err-admit g c =
+    let p = err_from_is_err_and c.from_residual-in_err-admit.result c.from_residual-in_err-admit.ensures.1 in
+    let a = asks c.args.out.now (seen_file c.in_ok-file.file) c.in_ok-file.ensures.value c.terms-terms.ensures c.reference-reference.ensures c.head.ensures c.detail_count-count.ensures in
     record {
-      answer = rw (p.1, p.2) (refused_answer a _ c.in-err-admit.ensures.value);
-      after = refused_after a _ c.in-err-admit.ensures.value (book_of g.B.TariffBook c.args.book.now);
+      answer = rw (p.1, p.2) (refused_answer a _ c.in_err-admit.ensures.value);
+      after = refused_after a _ c.in_err-admit.ensures.value (book_of g.B.TariffBook c.args.book.now);
     }
 
-pub write-verdicts-requires : goal.write-verdicts-requires
-write-verdicts-requires g c =
+pub write_verdicts-requires : goal.write_verdicts-requires
+write_verdicts-requires g c =
     record {
-      lines = file_details c.args.bytes.now (seen_file c.in-ok-file.file) c.in-ok-file.ensures.value;
-      room = subst (λ n. n ≤ length c.args.out.now) c.detail-count-count.ensures c.in-ok-admit.ensures.fits;
+      lines = file_details c.args.bytes.now (seen_file c.in_ok-file.file) c.in_ok-file.ensures.value;
+      room = subst (λ n. n ≤ length c.args.out.now) c.detail_count-count.ensures c.in_ok-admit.ensures.fits;
     }
 
 pub returns : goal.returns
 returns g c =
-    let a = asks c.args.out.now (seen_file c.in-ok-file.file) c.in-ok-file.ensures.value c.terms-terms.ensures c.reference-reference.ensures c.head.ensures c.detail-count-count.ensures in
+    let a = asks c.args.out.now (seen_file c.in_ok-file.file) c.in_ok-file.ensures.value c.terms-terms.ensures c.reference-reference.ensures c.head.ensures c.detail_count-count.ensures in
     record {
-      answer = given_answer a c.in-ok-admit.ensures.value;
-      after = given_after a c.in-ok-admit.ensures.value (book_of g.B.TariffBook c.args.book.now) c.write-verdicts.new.out c.write-verdicts.ensures;
+      answer = given_answer a c.in_ok-admit.ensures.value;
+      after = given_after a c.in_ok-admit.ensures.value (book_of g.B.TariffBook c.args.book.now) c.write_verdicts.new.out c.write_verdicts.ensures;
     }

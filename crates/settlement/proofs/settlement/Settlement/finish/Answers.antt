@@ -1,6 +1,6 @@
 use Rattle.std.proofs.Common.{◌≡◌, ℕ, List, sym, ap, ◌∙◌, subst}
 use Rattle.intake.specs.Records.{records_of}
-use Rattle.rating.specs.Rating.{Book, book_of}
+use Rattle.rating.specs.Rating.{Book}
 use Rattle.statement.specs.Account.{Reaches}
 use Rattle.statement.specs.Statement.{Model, model}
 use Rattle.settlement.specs.Settling.{Settling, take_all, account_all}

@@ -1,4 +1,4 @@
-use Rattle.std.proofs.Common.{◌≡◌, [], refl, ◌∙◌, arith}
+use Rattle.std.proofs.Common.{[], refl, ◌∙◌, arith}
 use Rattle.rating.specs.Rating.{book_of}
 use Rattle.statement.specs.Statement.{model}
 use Rattle.settlement.proofs.TakeLaws.{lengths_alike}
