@@ -22,6 +22,7 @@ use std::{env, fs};
 use stores::table::TableStore;
 use values::calendar::Month;
 use values::terms::Terms;
+use std::process::ExitCode;
 
 // Rows of each store.
 const ROWS: usize = 500;
@@ -52,18 +53,18 @@ struct Input<'a> {
     declared: &'a [u8],
 }
 
-// The bytes of the declared file.
-fn read_declared(rt: &HostRuntime) -> anyhow::Result<Vec<u8>> {
+// The bytes of the declared file; none where it cannot be read, which is then said.
+fn read_declared(rt: &HostRuntime) -> anyhow::Result<Option<Vec<u8>>> {
     let mut words = env::args(rt)?;
     let _ = words.next();
     let (Some(name), None) = (words.next(), words.next()) else {
         return Err(anyhow!("usage: contest DECLARED < RECORDS"));
     };
     match fs::read(rt, &name) {
-        Ok(bytes) => Ok(bytes),
+        Ok(bytes) => Ok(Some(bytes)),
         Err(why) => {
-            let text = format!(in rt.alloc(); "{name} cannot be read: {why}")?;
-            Err(text.into())
+            eprintln!(rt; "contest: {name} cannot be read: {why}")?;
+            Ok(None)
         }
     }
 }
@@ -74,7 +75,7 @@ fn contest_over<L: RowStore<Row = LineRow> + Drop, D: RowStore<Row = DayRow> + D
     input: &Input<'_>,
     lines: L,
     days: D,
-) -> anyhow::Result<()>
+) -> anyhow::Result<ExitCode>
     requires lines { StoreKept line_keys (L.RowStore.ledger lines) (L.RowStore.kept lines) }
     requires days { StoreKept day_keys (D.RowStore.ledger days) (D.RowStore.kept days) }
 {
@@ -90,8 +91,10 @@ fn contest_over<L: RowStore<Row = LineRow> + Drop, D: RowStore<Row = DayRow> + D
     )
 }
 
-fn contest(rt: &HostRuntime) -> anyhow::Result<()> {
-    let declared = read_declared(rt)?;
+fn contest(rt: &HostRuntime) -> anyhow::Result<ExitCode> {
+    let Some(declared) = read_declared(rt)? else {
+        return Ok(ExitCode::FAILURE);
+    };
     let agreement = read_agreement(rt)?;
     let terms = read_terms(rt, &agreement)?;
     let reference = read_reference(rt)?;
@@ -111,12 +114,12 @@ fn contest(rt: &HostRuntime) -> anyhow::Result<()> {
     )
 }
 
-fn main(rt: HostRuntime) -> anyhow::Result<()> {
+fn main(rt: HostRuntime) -> ExitCode {
     match contest(&rt) {
-        Ok(()) => Ok(()),
+        Ok(code) => code,
         Err(why) => {
-            eprintln!(rt; "contest: {why}")?;
-            Err(why)
+            let _ = eprintln!(rt; "contest: {why}");
+            ExitCode::FAILURE
         }
     }
 }

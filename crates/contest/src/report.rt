@@ -21,6 +21,7 @@ use verdicts::faults::ContestFault;
 use verdicts::judging::judge;
 use verdicts::months::{MonthContest, contest_month};
 use verdicts::verdict::Verdict;
+use std::process::ExitCode;
 
 const LINE_WIDTH: usize = 129;
 
@@ -221,16 +222,20 @@ pub fn report<L: RowStore<Row = LineRow>, D: RowStore<Row = DayRow>>(
     statement: &mut Statement<L, D>,
     book: &FileBook,
     bytes: &[u8],
-) -> anyhow::Result<()>
+) -> anyhow::Result<ExitCode>
     requires { Kept L.RowStore D.RowStore statement.old }
 {
     let mut verdicts = vec![in rt.alloc(); 0u8; bytes.len() / LINE_WIDTH]?;
     let count = match contest(statement, book, bytes, &mut verdicts) {
         Ok(count) => count,
-        Err(fault) => return Err(refuse(rt, bytes, fault)?.into()),
+        Err(fault) => {
+            let text = refuse(rt, bytes, fault)?;
+            eprintln!(rt; "contest: {text}")?;
+            return Ok(ExitCode::FAILURE);
+        }
     };
     let Ok(file) = file::read(bytes) else {
-        return Ok(());
+        return Ok(ExitCode::SUCCESS);
     };
     let head = file.head();
     let creditor = head.creditor;
@@ -244,5 +249,6 @@ pub fn report<L: RowStore<Row = LineRow>, D: RowStore<Row = DayRow>>(
         verdicts.get(0..count).unwrap_or(&[]),
         months,
         contestable,
-    )
+    )?;
+    Ok(ExitCode::SUCCESS)
 }

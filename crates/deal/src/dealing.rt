@@ -113,8 +113,7 @@ fn unite<
         Ok(()) => Ok(()),
         Err(fault) => {
             let number = fault.number();
-            let text = format!(in rt.alloc(); "the join is refused: {number}")?;
-            Err(text.into())
+            Err(anyhow!("the join is refused: {number}"))
         }
     }
 }

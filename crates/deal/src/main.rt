@@ -14,6 +14,7 @@ use records::Records;
 use settlement::month::{MONTH_LINE, read_month};
 use std::io::Read;
 use values::calendar::Month;
+use std::process::ExitCode;
 
 fn read_reference(text: &[u8]) -> anyhow::Result<Month> {
     if text.len() >= MONTH_LINE {
@@ -34,12 +35,12 @@ fn deal(rt: &HostRuntime) -> anyhow::Result<()> {
     dealing::run(rt, terms, reference, &FileBook::new(&agreement), &records)
 }
 
-fn main(rt: HostRuntime) -> anyhow::Result<()> {
+fn main(rt: HostRuntime) -> ExitCode {
     match deal(&rt) {
-        Ok(()) => Ok(()),
+        Ok(()) => ExitCode::SUCCESS,
         Err(why) => {
-            eprintln!(rt; "deal: {why}")?;
-            Err(why)
+            let _ = eprintln!(rt; "deal: {why}");
+            ExitCode::FAILURE
         }
     }
 }

@@ -3,6 +3,7 @@ ghost use Rattle.std.specs.Prelude.{◌≡◌, IfOk, Ok};
 ghost use Rattle.agreement.specs.Agreement.{opened};
 
 use agreement::faults::AgreementFault;
+use anyhow::anyhow;
 use std::fs;
 use values::terms::Terms;
 
@@ -19,10 +20,7 @@ fn reason(fault: AgreementFault) -> &'static str {
 pub fn read_agreement(rt: &HostRuntime) -> anyhow::Result<Vec<u8>> {
     match fs::read(rt, "agreement") {
         Ok(bytes) => Ok(bytes),
-        Err(why) => {
-            let text = format!(in rt.alloc(); "agreement refused: the file cannot be read: {why}")?;
-            Err(text.into())
-        }
+        Err(why) => Err(anyhow!("agreement refused: the file cannot be read: {why}")),
     }
 }
 
@@ -37,10 +35,7 @@ pub fn read_terms(rt: &HostRuntime, bytes: &[u8]) -> anyhow::Result<Terms>
             let part = fault.part();
             let row = fault.row();
             let why = reason(fault);
-            let text = format!(in rt.alloc();
-                "agreement refused: {number}, part {part}, row {row} ({why})"
-            )?;
-            Err(text.into())
+            Err(anyhow!("agreement refused: {number}, part {part}, row {row} ({why})"))
         }
     }
 }

@@ -12,24 +12,25 @@ use declared::lines::{DeclaredLine, DetailLine, TotalLine};
 use desk::refusals::explain;
 use std::io::Read;
 use std::{env, fs};
+use std::process::ExitCode;
 
-// The bytes of the file named, or else of standard input.
-fn read_input(rt: &HostRuntime) -> anyhow::Result<Vec<u8>> {
+// The bytes of the file named, or else of standard input; none where the file cannot be read, which is then said.
+fn read_input(rt: &HostRuntime) -> anyhow::Result<Option<Vec<u8>>> {
     let mut words = env::args(rt)?;
     let _ = words.next();
     let Some(name) = words.next() else {
         let mut bytes = Vec::new(rt.alloc());
         rt.stdin().read_to_end(&mut bytes)?;
-        return Ok(bytes);
+        return Ok(Some(bytes));
     };
     if words.next().is_some() {
         return Err(anyhow!("usage: inspect [FILE]"));
     }
     match fs::read(rt, &name) {
-        Ok(bytes) => Ok(bytes),
+        Ok(bytes) => Ok(Some(bytes)),
         Err(why) => {
-            let text = format!(in rt.alloc(); "{name} cannot be read: {why}")?;
-            Err(text.into())
+            eprintln!(rt; "inspect: {name} cannot be read: {why}")?;
+            Ok(None)
         }
     }
 }
@@ -94,20 +95,29 @@ fn print_file(rt: &HostRuntime, file: Declared<'_>) -> anyhow::Result<()> {
     Ok(())
 }
 
-fn inspect(rt: &HostRuntime) -> anyhow::Result<()> {
-    let bytes = read_input(rt)?;
+fn inspect(rt: &HostRuntime) -> anyhow::Result<ExitCode> {
+    let Some(bytes) = read_input(rt)? else {
+        return Ok(ExitCode::FAILURE);
+    };
     match file::read(&bytes) {
-        Ok(file) => print_file(rt, file),
-        Err(fault) => Err(explain(rt, &bytes, fault)?.into()),
+        Ok(file) => {
+            print_file(rt, file)?;
+            Ok(ExitCode::SUCCESS)
+        }
+        Err(fault) => {
+            let text = explain(rt, &bytes, fault)?;
+            eprintln!(rt; "inspect: {text}")?;
+            Ok(ExitCode::FAILURE)
+        }
     }
 }
 
-fn main(rt: HostRuntime) -> anyhow::Result<()> {
+fn main(rt: HostRuntime) -> ExitCode {
     match inspect(&rt) {
-        Ok(()) => Ok(()),
+        Ok(code) => code,
         Err(why) => {
-            eprintln!(rt; "inspect: {why}")?;
-            Err(why)
+            let _ = eprintln!(rt; "inspect: {why}");
+            ExitCode::FAILURE
         }
     }
 }

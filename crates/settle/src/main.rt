@@ -26,6 +26,7 @@ use std::env;
 use std::io::Write;
 use values::calendar::Month;
 use values::terms::Terms;
+use std::process::ExitCode;
 
 // Bytes of the longest file: a line for each row, and the total line.
 const FILE: usize = 64_629;
@@ -103,12 +104,12 @@ fn settle(rt: &HostRuntime) -> anyhow::Result<()> {
     }
 }
 
-fn main(rt: HostRuntime) -> anyhow::Result<()> {
+fn main(rt: HostRuntime) -> ExitCode {
     match settle(&rt) {
-        Ok(()) => Ok(()),
+        Ok(()) => ExitCode::SUCCESS,
         Err(why) => {
-            eprintln!(rt; "settle: {why}")?;
-            Err(why)
+            let _ = eprintln!(rt; "settle: {why}");
+            ExitCode::FAILURE
         }
     }
 }
