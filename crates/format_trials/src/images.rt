@@ -66,7 +66,7 @@ fn print_day(rt: &HostRuntime, row: &DayRow) -> anyhow::Result<()> {
 }
 
 fn print_size<S: RowStore>(rt: &HostRuntime, store: &mut S) -> anyhow::Result<()>
-    requires { Kept Row-as-Row.keys (S.RowStore.ledger store.old) (S.RowStore.kept store.old) }
+    requires { Kept S.Row.Row.keys (S.RowStore.ledger store.old) (S.RowStore.kept store.old) }
     ensures { store.new ≡ store.old }
 {
     let size = store.size();
