@@ -6,7 +6,7 @@
 mod agreements;
 mod detraf_files;
 mod hex;
-mod images;
+mod image_files;
 
 use anyhow::anyhow;
 use std::io::{BufRead, BufReader};
@@ -14,8 +14,8 @@ use std::io::{BufRead, BufReader};
 fn show(rt: &HostRuntime, format: &str, bytes: &mut [u8]) -> anyhow::Result<()> {
     match format {
         "agreement" => agreements::open(rt, bytes),
-        "line" => images::open_lines(rt, bytes),
-        "day" => images::open_days(rt, bytes),
+        "line" => image_files::open_lines(rt, bytes),
+        "day" => image_files::open_days(rt, bytes),
         "detraf" => detraf_files::read(rt, bytes),
         _ => Err(anyhow!("no such format")),
     }
