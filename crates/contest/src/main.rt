@@ -18,11 +18,11 @@ use ledger::line::{LineCell, LineRow};
 use ledger::store::RowStore;
 use report::report;
 use settlement::settlement::Settlement;
+use std::process::ExitCode;
 use std::{env, fs};
 use stores::table::TableStore;
 use values::calendar::Month;
 use values::terms::Terms;
-use std::process::ExitCode;
 
 // Rows of each store.
 const ROWS: usize = 500;

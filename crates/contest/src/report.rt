@@ -13,6 +13,7 @@ use ledger::line::LineRow;
 use ledger::store::RowStore;
 use ledger::traffic::Traffic;
 use statement::statement::Statement;
+use std::process::ExitCode;
 use values::calendar::Month;
 use values::rates::Tariff;
 use values::terms::Terms;
@@ -21,7 +22,6 @@ use verdicts::faults::ContestFault;
 use verdicts::judging::judge;
 use verdicts::months::{MonthContest, contest_month};
 use verdicts::verdict::Verdict;
-use std::process::ExitCode;
 
 const LINE_WIDTH: usize = 129;
 

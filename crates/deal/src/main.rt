@@ -13,8 +13,8 @@ use desk::agreements::{read_agreement, read_terms};
 use records::Records;
 use settlement::month::{MONTH_LINE, read_month};
 use std::io::Read;
-use values::calendar::Month;
 use std::process::ExitCode;
+use values::calendar::Month;
 
 fn read_reference(text: &[u8]) -> anyhow::Result<Month> {
     if text.len() >= MONTH_LINE {

@@ -11,8 +11,8 @@ use declared::file::Declared;
 use declared::lines::{DeclaredLine, DetailLine, TotalLine};
 use desk::refusals::explain;
 use std::io::Read;
-use std::{env, fs};
 use std::process::ExitCode;
+use std::{env, fs};
 
 // The bytes of the file named, or else of standard input; none where the file cannot be read, which is then said.
 fn read_input(rt: &HostRuntime) -> anyhow::Result<Option<Vec<u8>>> {

@@ -24,9 +24,9 @@ use settlement::settlement::Settlement;
 use statement::statement::Statement;
 use std::env;
 use std::io::Write;
+use std::process::ExitCode;
 use values::calendar::Month;
 use values::terms::Terms;
-use std::process::ExitCode;
 
 // Bytes of the longest file: a line for each row, and the total line.
 const FILE: usize = 64_629;
