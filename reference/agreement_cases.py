@@ -1,7 +1,13 @@
+#!/usr/bin/env python3
 """Agreements to open, and what opening and asking them answers, worked out by settle.py: one sound agreement and
 others, and each of them damaged: every contents entry, lengths around the edges, every field of every kind of row, rows
 equal and falling.
+
+Called by itself it writes the input of the program `agreement_trials` and what it has to print: agreement_cases.py
+FOLDER writes FOLDER/stdin and FOLDER/stdout.
 """
+import sys
+
 import settle
 
 DESCRIPTORS = [b" LOCC", b" LOCN", b"   N1"]
@@ -37,10 +43,11 @@ def damaged(sound):
             yield replaced(sound, at, new)
 
 
-def cases():
+def cases(damaged_first=True):
     sound = build()
     yield sound
-    yield from damaged(sound)
+    if damaged_first:
+        yield from damaged(sound)
     yield build(cena=[], tari=[])
     yield build(cena=[])
     yield build(tari=[])
@@ -58,6 +65,8 @@ def cases():
         yield sound[:length]
     yield sound + b"\n"
     yield sound + b" " * 30
+    if not damaged_first:
+        yield from damaged(sound)
     for part in (b"00018720365025000", b"99999900000000000", b"00100125000000000", b"04118715000000000", b"04118705000000001",
                  b"04118725000000000", b"04100020365025000", b"04118730365025000", b"04118720000050000", b"04118722500025000"):
         yield build(part=part)
@@ -90,3 +99,18 @@ def answer(data):
                 tariff = opened and opened.tariff({"point": place, "descriptor": kind, "day": day})
                 text += " -" if tariff is None else " %d" % tariff
     return [text]
+
+
+def main():
+    folder, seen = sys.argv[1], set()
+    with open(folder + "/stdin", "w") as given, open(folder + "/stdout", "w") as expected:
+        for data in cases(damaged_first=False):
+            if data not in seen:
+                seen.add(data)
+                given.write(data.hex() + "\n")
+                expected.write("\n".join(answer(data)) + "\n")
+    print("%d cases" % len(seen))
+
+
+if __name__ == "__main__":
+    main()

@@ -1,6 +1,6 @@
 -- Every statement that takes and joins lead to is settled by its account.
 use Rattle.std.proofs.Common.{◌≡◌, ℕ, ◌+◌, ◌<◌, ◌≤◌, Bool, true, false, leb, List, [], ◌∷◌, ◌++◌, map, length, Ok, Err, Result, sym, refl, ap, ◌∙◌, subst, ap₂, inl, inr, arith}
-use Rattle.std.specs.List.{AllByRecursion as All}
+use Rattle.std.specs.List.{AllByRecursion}
 use Rattle.std.specs.List.Sorted.{IsPermutation}
 use Rattle.std.proofs.lemmas.Bool.{true≢false, leb-true, leb-false}
 use Rattle.std.proofs.lemmas.Bool.Decides.{nat_tests}
@@ -169,17 +169,17 @@ module _ (m : Model) (b : Book) where
   known e p (inr (q, j, s, c, inl f)) n = absurd (true≢false (sym (ap (refused_with 12) f) ∙ n.0))
   known e p (inr (q, j, s, c, inr f)) n = absurd (true≢false (sym (ap (refused_with 13) f) ∙ n.1))
 
-  all_known : (a : List Entry) → All (λ e. e.book ≡ b) a → All (Fair m.terms m.reference) a → All NotForSpace a → a ≡ map entry_of (map (λ e. e.bytes) a)
+  all_known : (a : List Entry) → AllByRecursion (λ e. e.book ≡ b) a → AllByRecursion (Fair m.terms m.reference) a → AllByRecursion NotForSpace a → a ≡ map entry_of (map (λ e. e.bytes) a)
   all_known [] p f n = refl
   all_known (e ∷ a) p f n = ap₂ (λ x l. x ∷ l) (known e p.0 f.0 n.0) (all_known a p.1 f.1 n.1)
 
 equal : (m g : Model) (a c : List Entry) → Reaches m a → Reaches g c
-    → m.terms ≡ g.terms → m.reference ≡ g.reference → (b : Book) → All (λ e. e.book ≡ b) a → All (λ e. e.book ≡ b) c
-    → IsPermutation (map (λ e. e.bytes) a) (map (λ e. e.bytes) c) → All NotForSpace a → All NotForSpace c → Equal m a g c
+    → m.terms ≡ g.terms → m.reference ≡ g.reference → (b : Book) → AllByRecursion (λ e. e.book ≡ b) a → AllByRecursion (λ e. e.book ≡ b) c
+    → IsPermutation (map (λ e. e.bytes) a) (map (λ e. e.bytes) c) → AllByRecursion NotForSpace a → AllByRecursion NotForSpace c → Equal m a g c
 equal m g a c h i p q b one-book one-book' shuffled room room' =
     let k = kept h in
     let l = kept i in
-    let fair : All (Fair m.terms m.reference) c = subst (λ t. All (Fair t m.reference) c) (sym p) (subst (λ r. All (Fair g.terms r) c) (sym q) l.fair) in
+    let fair : AllByRecursion (Fair m.terms m.reference) c = subst (λ t. AllByRecursion (Fair t m.reference) c) (sym p) (subst (λ r. AllByRecursion (Fair g.terms r) c) (sym q) l.fair) in
     let one = all_known m b a one-book k.fair room in
     let two = all_known m b c one-book' fair room' in
     let made : Reordered (map (entry_of m b) (map (λ e. e.bytes) a)) (map (entry_of m b) (map (λ e. e.bytes) c)) =

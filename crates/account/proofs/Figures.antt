@@ -1,6 +1,6 @@
 -- The figures of a line and of a day by what is booked in them, and a line's net by its worth.
 use Rattle.std.proofs.Common.{◌≡◌, ℕ, zero, suc, ◌+◌, ◌*◌, ◌%◌, ◌<◌, ◌≤◌, Bool, true, false, cond, leb, ◌⊎◌, List, [], ◌∷◌, ◌++◌, map, length, Some, filter, Ordering, Less, Equal, Greater, sym, refl, ap, ◌∙◌, subst, inl, inr, suc-le-suc, arith}
-use Rattle.std.specs.List.{slice_get, ContainsAt as Has, AllByRecursion as All}
+use Rattle.std.specs.List.{slice_get, ContainsAt as Has, AllByRecursion}
 use Rattle.std.specs.Ordering.{is_eq}
 use Rattle.std.proofs.ByRecursion.{All-weaker, kept_by_passes, sum_by_le}
 use Rattle.std.proofs.lemmas.List.Sums.{sum_by-cons, length-filter, count_by-le-length}
@@ -39,7 +39,7 @@ Sums t ps = (0 < length ps) × (t.calls ≡ length ps) × (t.tenths ≡ tenths_o
 abbrev Few : List Posting → Type 0
 Few ps = length ps ≤ limit
 
-all_short : (ps : List Posting) → All (λ p. p.tenths.count ≤ 600000) ps
+all_short : (ps : List Posting) → AllByRecursion (λ p. p.tenths.count ≤ 600000) ps
 all_short [] = tt
 all_short (p ∷ ps) = (p.tenths.few, all_short ps)
 
@@ -90,12 +90,12 @@ latest_more s t xs h = go (leb_tells s.number t.number)
 abbrev LineHolds : LineRow → List Posting → Type 0
 LineHolds r ps = Few ps → Sums r.traffic ps
 
-line_holds : (l : List LineRow) (ps : List Posting) → l ≡ ledger_of line_keys join_lines (map line_for ps) → All (λ r. LineHolds r (in_line r.key ps)) l
+line_holds : (l : List LineRow) (ps : List Posting) → l ≡ ledger_of line_keys join_lines (map line_for ps) → AllByRecursion (λ r. LineHolds r (in_line r.key ps)) l
 line_holds =
     all_stand line_keys line_order join_lines line_joins line_for LineHolds (λ p h. sums_one p)
     (λ p r ps e f h. sums_more p r.traffic ps h (f (few_tail p ps h)))
 
-pub line_right : (l : List LineRow) (ps : List Posting) → Few ps → l ≡ ledger_of line_keys join_lines (map line_for ps) → All (LineRight ps) l
+pub line_right : (l : List LineRow) (ps : List Posting) → Few ps → l ≡ ledger_of line_keys join_lines (map line_for ps) → AllByRecursion (LineRight ps) l
 line_right l ps h e = All-weaker (λ r. LineHolds r (in_line r.key ps)) (LineRight ps) right l (line_holds l ps e)
   where
     right : (r : LineRow) → LineHolds r (in_line r.key ps) → LineRight ps r
@@ -114,10 +114,10 @@ day_more p r ps e f h =
     let s = f (few_tail p ps h) in
     (sums_more p r.traffic ps h s.0, earliest_more p.time r.earliest (starts ps) s.1, latest_more p.time r.latest (starts ps) s.2)
 
-day_holds : (l : List DayRow) (ps : List Posting) → l ≡ ledger_of day_keys join_days (map day_for ps) → All (λ r. DayHolds r (in_day r.key ps)) l
+day_holds : (l : List DayRow) (ps : List Posting) → l ≡ ledger_of day_keys join_days (map day_for ps) → AllByRecursion (λ r. DayHolds r (in_day r.key ps)) l
 day_holds = all_stand day_keys day_order join_days day_joins day_for DayHolds day_one day_more
 
-pub day_right : (l : List DayRow) (ps : List Posting) → Few ps → l ≡ ledger_of day_keys join_days (map day_for ps) → All (DayRight ps) l
+pub day_right : (l : List DayRow) (ps : List Posting) → Few ps → l ≡ ledger_of day_keys join_days (map day_for ps) → AllByRecursion (DayRight ps) l
 day_right l ps h e = All-weaker (λ r. DayHolds r (in_day r.key ps)) (DayRight ps) right l (day_holds l ps e)
   where
     right : (r : DayRow) → DayHolds r (in_day r.key ps) → DayRight ps r
@@ -132,7 +132,7 @@ is_equal Equal e = refl
 is_equal Less e = absurd (false≢true e)
 is_equal Greater e = absurd (false≢true e)
 
-worth_line : (k : LineKey) (ps : List Posting) → All (λ p. line_of p ≡ k) ps → worth ps ≡ tenths_of ps * k.tariff.number
+worth_line : (k : LineKey) (ps : List Posting) → AllByRecursion (λ p. line_of p ≡ k) ps → worth ps ≡ tenths_of ps * k.tariff.number
 worth_line k [] h = omega arith
 worth_line k (p ∷ ps) h =
     let here : p.tenths.count * p.key.tariff.number ≡ p.tenths.count * k.tariff.number = ap (λ j. p.tenths.count * j.tariff.number) h.0 in
@@ -142,7 +142,7 @@ worth_line k (p ∷ ps) h =
 pub net_right : (ps : List Posting) (r : LineRow) → LineRight ps r → FallsShort (net_of r.traffic.tenths r.key.tariff.number) (in_line r.key ps)
 net_right ps r h =
     let mine : List Posting = in_line r.key ps in
-    let alike : All (λ p. line_of p ≡ r.key) mine =
+    let alike : AllByRecursion (λ p. line_of p ≡ r.key) mine =
     All-weaker (λ p. is_eq (line_keys.order (line_of p) r.key) ≡ true) (λ p. line_of p ≡ r.key)
     (λ p e. line_order.identical (line_of p) r.key (is_equal _ e)) mine (kept_by_passes (λ p. is_eq (line_keys.order (line_of p) r.key)) ps) in
     let all : worth mine ≡ r.traffic.tenths * r.key.tariff.number = worth_line r.key mine alike ∙ ap (λ n. n * r.key.tariff.number) (sym h.tenths) in
@@ -150,7 +150,7 @@ net_right ps r h =
 
 -- ---- the file's line of a row
 
-all_nth : {X : Type 0} (P : X → Type 0) (xs : List X) (i : ℕ) (x : X) → All P xs → slice_get xs i ≡ Some x → P x
+all_nth : {X : Type 0} (P : X → Type 0) (xs : List X) (i : ℕ) (x : X) → AllByRecursion P xs → slice_get xs i ≡ Some x → P x
 all_nth P [] i x h e = absurd (none≢some refl e)
 all_nth P (y ∷ ys) zero x h e = subst P (some_is e) h.0
 all_nth P (y ∷ ys) (suc i) x h e = all_nth P ys i x h.1 e
@@ -160,7 +160,7 @@ nth_front f [] ys i x e = absurd (none≢some refl e)
 nth_front f (y ∷ xs) ys zero x e = ap (λ z. Some (f z)) (some_is e)
 nth_front f (y ∷ xs) ys (suc i) x e = nth_front f xs ys i x e
 
-pub net_shown : (m : Model) (a : List Entry) (i : ℕ) (row : LineRow) → slice_get m.lines.rows i ≡ Some row → All (LineRight (postings a)) m.lines.rows → NetRight m a i row
+pub net_shown : (m : Model) (a : List Entry) (i : ℕ) (row : LineRow) → slice_get m.lines.rows i ≡ Some row → AllByRecursion (LineRight (postings a)) m.lines.rows → NetRight m a i row
 net_shown m a i row e h =
     let rows = m.lines.rows in
     let line = detail_line m.terms.rates row in

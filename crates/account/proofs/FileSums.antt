@@ -1,6 +1,6 @@
 -- The sums of a statement's lines have no more digits than the total line, so its file reads back.
 use Rattle.std.proofs.Common.{◌≡◌, ℕ, ◌+◌, ◌*◌, ◌≤◌, List, [], ◌∷◌, map, length, sum_by, Ordering, Less, Equal, Greater, sym, subst, mul-le-mul, arith}
-use Rattle.std.specs.List.{AllByRecursion as All}
+use Rattle.std.specs.List.{AllByRecursion}
 use Rattle.std.proofs.ByRecursion.{All-map, sum_by_le}
 use Rattle.std.proofs.lemmas.List.{length-map}
 use Rattle.std.proofs.lemmas.List.Sums.{sum_by-cons}
@@ -50,17 +50,17 @@ sum_times f g h k most (x ∷ xs) =
 
 -- ---- the rows of few postings
 
-calls_few : (ps : List Posting) → All (λ p. (line_for p).traffic.calls ≤ 1) ps
+calls_few : (ps : List Posting) → AllByRecursion (λ p. (line_for p).traffic.calls ≤ 1) ps
 calls_few [] = tt
 calls_few (p ∷ ps) = (omega arith, calls_few ps)
 
-tenths_few : (ps : List Posting) → All (λ p. (line_for p).traffic.tenths ≤ 600000) ps
+tenths_few : (ps : List Posting) → AllByRecursion (λ p. (line_for p).traffic.tenths ≤ 600000) ps
 tenths_few [] = tt
 tenths_few (p ∷ ps) = (let z = p.tenths.few in omega arith, tenths_few ps)
 
 -- a figure of the rows of postings that is bounded for each posting
 module _ (f : LineRow → ℕ) (less : (a b : LineRow) → f (join_lines a b) ≤ f a + f b) (k : ℕ) where
-  sum_rows : (ps : List Posting) → All (λ p. f (line_for p) ≤ k) ps → sum_by f (ledger_of line_keys join_lines (map line_for ps)) ≤ length ps * k
+  sum_rows : (ps : List Posting) → AllByRecursion (λ p. f (line_for p) ≤ k) ps → sum_by f (ledger_of line_keys join_lines (map line_for ps)) ≤ length ps * k
   sum_rows ps h =
       let made = sum_ledger line_keys join_lines f less (map line_for ps) in
       let each : sum_by f (map line_for ps) ≤ length (map line_for ps) * k = sum_by_le f k (map line_for ps) (All-map (λ r. f r ≤ k) line_for ps h) in

@@ -2,7 +2,7 @@
 use Rattle.std.proofs.Common.{◌≡◌, ℕ, ◌+◌, ◌-◌, ◌<◌, ◌≤◌, Bool, true, false, cond, eqb, leb, List, [], ◌∷◌, ◌++◌, map, length, Ok, Err, count_by, Result, sym, refl, ap, ◌∙◌, subst, ap₂, inl, inr, arith}
 use mathlib.Core.HLevel.{is_prop→PathP}
 use native.Mathlib.Bridge.{le_prop}
-use Rattle.std.specs.List.{AllByRecursion as All}
+use Rattle.std.specs.List.{AllByRecursion}
 use Rattle.std.proofs.ByRecursion.{All-append, All-push}
 use Rattle.std.proofs.lemmas.List.{length-append, get_or-replicate}
 use Rattle.std.proofs.lemmas.List.Sums.{sum_by-append, sum_by_push}
@@ -112,7 +112,7 @@ pub record Kept (m : Model) (a : List Entry) : Type 0 where
   pub each : length a ≡ count_by (λ e. is_booked e.answer) a + count_by (λ e. is_refused e.answer) a
   pub numbers : length m.board.tallies ≡ 12
   pub tallies : (n : ℕ) → 2 ≤ n → n ≤ 13 → tally_at m.board (n - 2) ≡ tally_in n a
-  pub fair : All (Fair m.terms m.reference) a
+  pub fair : AllByRecursion (Fair m.terms m.reference) a
 
 -- ---- postings of two accounts, one after the other
 
@@ -300,7 +300,7 @@ kept_joined {m} {g} {a} {c} k h p q l =
       tallies = λ n i j.
           joined_at m.board.tallies g.board.tallies (n - 2) (omega (arith, k.numbers)) (k.numbers ∙ sym h.numbers)
           ∙ (ap₂ tallies_joined (k.tallies n i j) (h.tallies n i j) ∙ sym (tally_append n a c));
-      fair = All-append (Fair m.terms m.reference) a c k.fair (subst (λ t. All (Fair t m.reference) c) (sym p) (subst (λ r. All (Fair g.terms r) c) (sym q) h.fair));
+      fair = All-append (Fair m.terms m.reference) a c k.fair (subst (λ t. AllByRecursion (Fair t m.reference) c) (sym p) (subst (λ r. AllByRecursion (Fair g.terms r) c) (sym q) h.fair));
     }
 
 kept_receive : {m g : Model} {a c : List Entry} (x : Result (Unit {0}) JoinFault) → Kept m a → Kept g c → Joins m g x → Kept (receiver_after m g x) (receiver_noted a c x)

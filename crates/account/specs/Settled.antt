@@ -1,7 +1,7 @@
 -- What holds of every statement that takes and joins bring about, whatever their order, their dealing, the stores and
 -- the books.
 use Rattle.std.specs.Prelude.{◌≡◌, ℕ, ◌+◌, ◌-◌, ◌*◌, ◌<◌, ◌≤◌, true, false, ◌⊎◌, List, ◌++◌, map, length, take, drop, Some, Ok, Err, count_by, Result, ◌≢◌}
-use Rattle.std.specs.List.{slice_get, ContainsAt as Has, AllByRecursion as All}
+use Rattle.std.specs.List.{slice_get, ContainsAt as Has, AllByRecursion}
 use Rattle.std.specs.List.Sorted.{IsPermutation}
 use Rattle.cdr.specs.Faults.{charge, charged_to}
 use Rattle.cdr.specs.Reader.{read_record}
@@ -102,13 +102,13 @@ pub data JoinRight (m : Model) (a : List Entry) (g : Model) (c : List Entry) : R
 
 -- the least and the greatest of some numbers, and the least that is not 0, which stands for none
 abbrev pub Least : ℕ → List ℕ → Type 0
-Least n xs = Has xs n × All (λ x. n ≤ x) xs
+Least n xs = Has xs n × AllByRecursion (λ x. n ≤ x) xs
 
 abbrev pub Greatest : ℕ → List ℕ → Type 0
-Greatest n xs = Has xs n × All (λ x. x ≤ n) xs
+Greatest n xs = Has xs n × AllByRecursion (λ x. x ≤ n) xs
 
 abbrev pub LeastMet : ℕ → List ℕ → Type 0
-LeastMet q xs = ((q ≡ 0) × All (λ x. x ≡ 0) xs) ⊎ ((0 < q) × Has xs q × All (λ x. (x ≡ 0) ⊎ (q ≤ x)) xs)
+LeastMet q xs = ((q ≡ 0) × AllByRecursion (λ x. x ≡ 0) xs) ⊎ ((0 < q) × Has xs q × AllByRecursion (λ x. (x ≡ 0) ⊎ (q ≤ x)) xs)
 
 -- a line holds exactly its records' calls and tenths, and there is one at least
 pub record LineRight (ps : List Posting) (row : LineRow) : Type 0 where
@@ -128,11 +128,11 @@ pub record DayRight (ps : List Posting) (row : DayRow) : Type 0 where
 pub record Right (m : Model) (a : List Entry) : Type 0 where
   -- keys rise, so a key has one row only
   pub line_order : Rising line_keys m.lines.rows
-  pub line_each : All (λ p. HasRow line_keys m.lines.rows (line_of p)) (postings a)
-  pub line_right : All (LineRight (postings a)) m.lines.rows
+  pub line_each : AllByRecursion (λ p. HasRow line_keys m.lines.rows (line_of p)) (postings a)
+  pub line_right : AllByRecursion (LineRight (postings a)) m.lines.rows
   pub day_order : Rising day_keys m.days.rows
-  pub day_each : All (λ p. HasRow day_keys m.days.rows (day_of p)) (postings a)
-  pub day_right : All (DayRight (postings a)) m.days.rows
+  pub day_each : AllByRecursion (λ p. HasRow day_keys m.days.rows (day_of p)) (postings a)
+  pub day_right : AllByRecursion (DayRight (postings a)) m.days.rows
   -- every booked record brings one posting, of the key, the day and the tenths that it was answered
   pub booked : length (postings a) ≡ count_by (λ e. is_booked e.answer) a
   -- every record taken is booked, or refused with a number from 2 to 13
@@ -171,10 +171,10 @@ pub record Settled : Type 0 where
   pub takes : (m : Model) (a : List Entry) → Reaches m a → (b : Book) (r : List ℕ) → TakeRight m a b r (take_answer m b r)
   pub joins : (m g : Model) (a c : List Entry) → Reaches m a → Reaches g c → JoinRight m a g c (join_answer m g)
   pub equal : (m g : Model) (a c : List Entry) → Reaches m a → Reaches g c
-      → m.terms ≡ g.terms → m.reference ≡ g.reference → (b : Book) → All (λ e. e.book ≡ b) a → All (λ e. e.book ≡ b) c
-      → IsPermutation (map (λ e. e.bytes) a) (map (λ e. e.bytes) c) → All NotForSpace a → All NotForSpace c → Equal m a g c
+      → m.terms ≡ g.terms → m.reference ≡ g.reference → (b : Book) → AllByRecursion (λ e. e.book ≡ b) a → AllByRecursion (λ e. e.book ≡ b) c
+      → IsPermutation (map (λ e. e.bytes) a) (map (λ e. e.bytes) c) → AllByRecursion NotForSpace a → AllByRecursion NotForSpace c → Equal m a g c
   -- every record of the account was answered what the reader and rating say of it, or refused for space
-  pub fair : (m : Model) (a : List Entry) → Reaches m a → All (Fair m.terms m.reference) a
+  pub fair : (m : Model) (a : List Entry) → Reaches m a → AllByRecursion (Fair m.terms m.reference) a
   pub net : (m : Model) (a : List Entry) → Reaches m a → (i : ℕ) (row : LineRow) → slice_get m.lines.rows i ≡ Some row → NetRight m a i row
   -- the reader accepts the written file, and gives the statement's lines and their total
   pub reads : (m : Model) (a : List Entry) → Reaches m a
