@@ -1,5 +1,5 @@
 #!/usr/bin/env python3
-"""Runs target/bin/settle and reference/settle.py on damaged months and agreements, and compares what they answer.
+"""Runs crates/settle/out/settle (`rt run` in crates/settle) and reference/settle.py on damaged months and agreements, and compares what they answer.
 
 compare.py [COUNT] [SEED]. Ends with status 1 at the first difference, whose input it keeps.
 """
@@ -13,7 +13,7 @@ sys.path.insert(0, os.path.dirname(os.path.abspath(__file__)))
 import settle  # noqa: E402
 
 ROOT = os.path.dirname(os.path.dirname(os.path.abspath(__file__)))
-PROGRAM = os.path.join(ROOT, "target", "bin", "settle")
+PROGRAM = os.path.join(ROOT, "crates", "settle", "out", "settle")
 POINTS = [b"SPO01", b"RJO02", b"A", b"TENLETTERS", b"~!~"]
 KINDS = [b"LOCN", b"LOCC", b"N1", b"7"]
 BYTES = b"0123459 AZaz~\x00\x80\xff\n/:@[!\x7f"
