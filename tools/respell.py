@@ -5,7 +5,8 @@
 
 Words (functions, lemmas, fields, constructors' labels, ghost members) are written in snake case, facts and other types in
 upper camel case without dashes. Names that Rattle makes for a goal or an invariant are left as they are, and so are the
-names of source items, strings and comments' words other than these names. It is run once: a second run changes nothing.
+names of source items, strings and comments' words other than these names. It was run once, on what the kit's script had
+left; it doesn't know the names that a later check gives goals, so it is not to be run again.
 """
 
 import glob

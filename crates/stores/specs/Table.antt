@@ -36,8 +36,8 @@ TablePut o of cell join r old n new (Ok m) =
 TablePut o of cell join r old n new (Err e) = (takes o r (table_ledger of old n) ≡ false) × (e ≡ record { row = r }) × (new ≡ old)
 
 -- the same of a row type, by what it says of its rows and of its cells
-abbrev pub rows_in_part : {K C R : Type 0} → TableRow.Ghosts R C K → List C → ℕ → List R
-rows_in_part table cells n = table_rows table.row_of cells n
+abbrev pub rows_in : {K C R : Type 0} → TableRow.Ghosts R C K → List C → ℕ → List R
+rows_in table cells n = table_rows table.row_of cells n
 
 abbrev pub ledger_in : {K C R : Type 0} → TableRow.Ghosts R C K → List C → ℕ → Ledger R
 ledger_in table cells n = table_ledger table.row_of cells n

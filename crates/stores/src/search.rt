@@ -2,7 +2,7 @@
 ghost use Rattle.std.specs.Prelude.{◌≡◌, ◌+◌, ◌<◌, ◌≤◌, ◌∷◌, ◌++◌, length, take, drop, Some, MatchResult};
 ghost use Rattle.std.specs.List.{slice_get};
 ghost use Rattle.ledger.specs.Ledger.{find_row, next_row, place};
-ghost use Rattle.stores.specs.Table.{Tabled, Put, rows_in_part};
+ghost use Rattle.stores.specs.Table.{Tabled, Put, rows_in};
 
 use ledger::row::{Row, TableRow};
 use ledger::store::Full;
@@ -12,7 +12,7 @@ use std::cmp::Ordering;
 pub fn row_at<R: TableRow>(cells: &[R::Cell], len: usize, i: usize) -> R
     requires table { Tabled R.Row R.TableRow.own cells.now len }
     requires within { i < len }
-    ensures { slice_get (rows_in_part R.TableRow.own cells.now len) i ≡ Some result }
+    ensures { slice_get (rows_in R.TableRow.own cells.now len) i ≡ Some result }
 {
     match R::from_cell(cells[i]) {
         Some(row) => row,
@@ -23,7 +23,7 @@ pub fn row_at<R: TableRow>(cells: &[R::Cell], len: usize, i: usize) -> R
 // Where the key stands, or where it belongs.
 pub fn search<R: TableRow>(cells: &[R::Cell], len: usize, key: R::Key) -> Result<usize, usize>
     requires { Tabled R.Row R.TableRow.own cells.now len }
-    ensures found { result ≡ place R.Row.keys key (rows_in_part R.TableRow.own cells.now len) }
+    ensures found { result ≡ place R.Row.keys key (rows_in R.TableRow.own cells.now len) }
     ensures within { MatchResult result (λ i. i < len) (λ i. i ≤ len) }
 {
     let mut low = 0;
@@ -52,7 +52,7 @@ pub fn insert_cell<C: Copy>(cells: &mut [C], len: usize, at: usize, cell: C)
 // The row with this key.
 pub fn find_row<R: TableRow>(cells: &mut [R::Cell], len: usize, key: R::Key) -> Option<R>
     requires { Tabled R.Row R.TableRow.own cells.old len }
-    ensures found { result ≡ find_row R.Row.keys key (rows_in_part R.TableRow.own cells.old len) }
+    ensures found { result ≡ find_row R.Row.keys key (rows_in R.TableRow.own cells.old len) }
     ensures same { cells.new ≡ cells.old }
 {
     match search::<R>(cells, len, key) {
@@ -64,7 +64,7 @@ pub fn find_row<R: TableRow>(cells: &mut [R::Cell], len: usize, key: R::Key) -> 
 // The index of the first row, or of the first above a key.
 fn next_at<R: TableRow>(cells: &[R::Cell], len: usize, after: &Option<R::Key>) -> usize
     requires { Tabled R.Row R.TableRow.own cells.now len }
-    ensures { slice_get (rows_in_part R.TableRow.own cells.now len) result ≡ next_row R.Row.keys after.now (rows_in_part R.TableRow.own cells.now len) }
+    ensures { slice_get (rows_in R.TableRow.own cells.now len) result ≡ next_row R.Row.keys after.now (rows_in R.TableRow.own cells.now len) }
 {
     let Some(key) = after else {
         return 0;
@@ -78,7 +78,7 @@ fn next_at<R: TableRow>(cells: &[R::Cell], len: usize, after: &Option<R::Key>) -
 // The first row, or the first above a key.
 pub fn next_row<R: TableRow>(cells: &mut [R::Cell], len: usize, after: &Option<R::Key>) -> Option<R>
     requires { Tabled R.Row R.TableRow.own cells.old len }
-    ensures found { result ≡ next_row R.Row.keys after.now (rows_in_part R.TableRow.own cells.old len) }
+    ensures found { result ≡ next_row R.Row.keys after.now (rows_in R.TableRow.own cells.old len) }
     ensures same { cells.new ≡ cells.old }
 {
     let at = next_at::<R>(cells, len, after);
