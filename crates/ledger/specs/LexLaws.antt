@@ -3,7 +3,7 @@ use Rattle.std.specs.Prelude.{◌≡◌, ℕ, ◌<◌, ◌⊎◌, List, [], ◌�
 use Rattle.std.specs.declared.cmp.Ordering.TheVariants.{Less, Equal, Greater}
 use Rattle.std.specs.declared.cmp.Ordering.{Ordering}
 use Rattle.std.proofs.Common.{sym, ◌∙◌, inl, inr, ⊎_elim, arith}
-use Rattle.std.specs.Ordering.{MatchOrdering, ordering_then, ordering_reverse}
+use Rattle.std.specs.Ordering.{ordering_then, ordering_reverse}
 use Rattle.std.proofs.lemmas.Bool.Decides.{nat_tests}
 use Rattle.ledger.specs.Keys.{OrderLaws}
 use Rattle.ledger.specs.Lex.{order_of, lex_order, keys_by}
@@ -89,10 +89,6 @@ keys_lawful key figures apart = record {
   flipped = λ a b. lex_flipped (figures a) (figures b);
   transitive = λ a b c e f. lex_transitive (figures a) (figures b) (figures c) e f;
 }
-
--- what `cmp` answers on numbers
-pub compared : (x y : ℕ) (r : Ordering) → MatchOrdering r (x < y) (x ≡ y) (y < x) → r ≡ order_of x y
-compared x y r h = grind (arith, nat_tests)
 
 -- four comparisons in a row
 pub then_four : (a b c d : Ordering) → ordering_then (ordering_then (ordering_then a b) c) d ≡ ordering_then a (ordering_then b (ordering_then c (ordering_then d Equal)))
