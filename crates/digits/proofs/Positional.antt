@@ -1,8 +1,8 @@
 -- Laws of numbers in a fixed number of places, over the base and the symbol of 0.
-use Rattle.std.proofs.Common.{◌≡◌, ℕ, zero, suc, ◌+◌, ◌-◌, ◌*◌, ◌/◌, ◌%◌, ◌^◌, ◌<◌, ◌≤◌, Bool, true, false, ◌&&◌, ◌||◌, eqb, ltb, leb, ◌⊎◌, List, [], ◌∷◌, ◌++◌, length, get_or, drop, set, IfSome, Some, None, Option, sym, refl, ap, ◌∙◌, subst, ⊎_elim, append_assoc, lt_of_lt_of_le, add-zero, mod-lt, div-lt_iff_lt-mul, pow-suc, div-add-mod', add-one, arith}
+use Rattle.std.proofs.Common.{◌≡◌, ℕ, zero, suc, ◌+◌, ◌-◌, ◌*◌, ◌/◌, ◌%◌, ◌^◌, ◌<◌, ◌≤◌, Bool, true, false, ◌&&◌, ◌||◌, eqb, ltb, leb, ◌⊎◌, List, [], ◌∷◌, ◌++◌, length, get_or, drop, IfSome, Some, None, Option, sym, refl, ap, ◌∙◌, subst, ⊎_elim, append_assoc, lt_of_lt_of_le, add-zero, mod-lt, div-lt_iff_lt-mul, pow-suc, div-add-mod', add-one, arith}
 use native.Mathlib.Nat.{pow-zero, pow-le-pow_right}
 use lib.Arith.{digits_lt, digits_div, digits_mod}
-use Rattle.std.proofs.lemmas.List.{drop-set, drop_all, append-nil, length_push, at_drop_more, at_drop_all}
+use Rattle.std.proofs.lemmas.List.{append-nil, length_push, at_drop_more, at_drop_all}
 use Rattle.std.proofs.lemmas.Bool.{and_parts, and_from, leb-true, ltb-true, le-leb, lt-ltb, le-ltb, eq-eqb, ne_eqb, eqb-true, cond-true, cond-false, cases_Bool, cases_order}
 use Rattle.std.proofs.lemmas.Bool.Decides.{nat_tests}
 use Rattle.digits.specs.Positional.{number_after, are_digits, places, decimal, all_decimal, read_decimal, numeral, write_decimal, big_endian, bytes_of, lex_less, ReadsBack, WritesBack, KeepsOrder}
@@ -28,13 +28,6 @@ unfolding places
 length_places b z zero n = refl
 length_places b z (suc w) n =
     length_push (places b z w (n / b)) (z + n % b) ∙ (ap (λ m. m + 1) (length_places b z w (n / b)) ∙ add-one w)
-
--- one turn of a writer that fills a buffer from its end: place i comes from the rest r
-pub fill_more : (b z i r : ℕ) (xs : List ℕ) → i < length xs → places b z i (r / b) ++ drop i (set xs i (z + r % b)) ≡ places b z (i + 1) r ++ drop (i + 1) xs
-fill_more b z i r xs h =
-    ap (λ ys. places b z i (r / b) ++ ys) (drop-set xs i (z + r % b) h)
-    ∙ (sym (append_assoc (places b z i (r / b)) ((z + r % b) ∷ []) (drop (i + 1) xs))
-    ∙ ap (λ ys. ys ++ drop (i + 1) xs) (sym (places_more b z i r)))
 
 -- one turn of a reader: the place i goes into the number
 pub read_more : (b z n i : ℕ) (cs : List ℕ) (m : ℕ) → i < length cs → number_after b z n (drop i cs) ≡ m → number_after b z (n * b + (get_or cs i 0 - z)) (drop (i + 1) cs) ≡ m
@@ -68,22 +61,6 @@ test_stops b z i cs t h e o =
 
 pub test_all : (b z i : ℕ) (cs : List ℕ) (t : Bool) → length cs ≤ i → are_digits b z (drop i cs) ≡ t → t ≡ true
 test_all b z i cs t h e = let s : are_digits b z (drop i cs) ≡ true = at_drop_all (are_digits b z) cs i h in sym e ∙ s
-
--- the same, counted down from i, with the symbol as the writer has it
-pub fill_less : (b z i r d : ℕ) (xs ys : List ℕ) → 0 < i → i ≤ length xs → d ≡ z + r % b → places b z i r ++ drop i xs ≡ ys → places b z (i - 1) (r / b) ++ drop (i - 1) (set xs (i - 1) d) ≡ ys
-fill_less b z i r d xs ys p h e s =
-    let up : i - 1 + 1 ≡ i = omega arith in
-    let m : places b z (i - 1) (r / b) ++ drop (i - 1) (set xs (i - 1) (z + r % b)) ≡ places b z (i - 1 + 1) r ++ drop (i - 1 + 1) xs =
-    fill_more b z (i - 1) r xs (omega arith) in
-    let m2 : places b z (i - 1) (r / b) ++ drop (i - 1) (set xs (i - 1) (z + r % b)) ≡ places b z i r ++ drop i xs = rw up at m in
-    rw e (m2 ∙ s)
-
-pub fill_none : (b z n : ℕ) (xs : List ℕ) → places b z (length xs) n ++ drop (length xs) xs ≡ places b z (length xs) n
-fill_none b z n xs = ap (λ ys. places b z (length xs) n ++ ys) (drop_all (length xs) xs (omega arith)) ∙ append-nil (places b z (length xs) n)
-
-pub fill_all : (b z n i : ℕ) (xs ys : List ℕ) → i ≤ 0 → places b z i n ++ drop i xs ≡ ys → xs ≡ ys
-unfolding places
-fill_all b z n i xs ys h e = let k : i ≡ 0 = omega arith in rw k at e
 
 pub reads_some : (cs : List ℕ) (n : ℕ) → all_decimal cs ≡ true → n ≡ decimal cs → Some n ≡ read_decimal cs
 reads_some cs n t e = ap Some e ∙ sym (cond-true (all_decimal cs) (Some (decimal cs)) None t)

@@ -1,8 +1,8 @@
 // Numbers of a fixed width: decimal digits, and big-endian bytes.
 #![tactic(auto)]
 
-ghost use Rattle.std.specs.Prelude.{◌≡◌, ◌^◌, ◌<◌, ◌≤◌, length, IfSome};
-ghost use Rattle.digits.specs.Positional.{numeral, read_decimal, write_decimal, big_endian, read_bytes, bytes_of, ReadsBack, WritesBack, KeepsOrder};
+ghost use Rattle.std.specs.Prelude.{◌≡◌, ◌+◌, ◌^◌, ◌<◌, ◌≤◌, length, IfSome};
+ghost use Rattle.digits.specs.Positional.{numeral, read_decimal, places, write_decimal, big_endian, read_bytes, bytes_of, ReadsBack, WritesBack, KeepsOrder};
 
 // The most digits whose numbers all fit 64 bits.
 const MOST_DIGITS: usize = 19;
@@ -43,11 +43,7 @@ pub fn write_decimal(out: &mut [u8], n: u64)
     ensures after { out.new ≡ write_decimal (length out.old) n }
     ensures back { ReadsBack }
 {
-    let mut rest = n;
-    for i in (0..out.len()).rev() {
-        out[i] = b'0' + (rest % 10) as u8;
-        rest /= 10;
-    }
+    write_places::<10, b'0'>(out, n as u128);
 }
 
 // The number of big-endian bytes, or none where there are more than sixteen.
@@ -77,9 +73,18 @@ fn bytes_value(bytes: &[u8]) -> u128
 pub fn write_be(out: &mut [u8], n: u128)
     ensures { out.new ≡ bytes_of (length out.old) n }
 {
-    let mut rest = n;
-    for i in (0..out.len()).rev() {
-        out[i] = (rest % 256) as u8;
-        rest /= 256;
+    write_places::<256, 0>(out, n);
+}
+
+// Fills the buffer with the lowest places of n in a base whose symbols follow that of 0, the highest place first.
+fn write_places<const BASE: u16, const ZERO: u8>(out: &mut [u8], n: u128)
+    requires base { 0 < BASE }
+    requires symbols { ZERO + BASE ≤ 256 }
+    ensures { out.new ≡ places BASE ZERO (length out.old) n }
+{
+    let base = u128::from(BASE);
+    if let Some((last, front)) = out.split_last_mut() {
+        *last = ZERO + (n % base) as u8;
+        write_places::<BASE, ZERO>(front, n / base);
     }
 }

@@ -1,6 +1,0 @@
-use Rattle.std.proofs.Common.{◌≡◌, ◌++◌, length, drop}
-use Rattle.digits.specs.Positional.{bytes_of}
-use Rattle.digits.proofs.write_be.Given as goal
-
-abbrev pub invariant-loop-i : goal.invariant-loop-i
-invariant-loop-i l = bytes_of l.i l.rest ++ drop l.i l.out ≡ bytes_of (length l.initial.out) l.n
