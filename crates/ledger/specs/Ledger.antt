@@ -1,7 +1,7 @@
 -- A ledger: rows with strictly rising keys and the most that there may be; and what finding, going on and putting mean.
 use Rattle.std.specs.Prelude.{◌≡◌, ℕ, suc, ◌≤◌, Bool, true, false, cond, ◌||◌, List, [], ◌∷◌, length, is_some, Some, None, Ok, Err, Option, Result, nat_lt}
 use Rattle.std.specs.declared.cmp.Ordering.TheVariants.{Less}
-use Rattle.std.specs.Ordering.{is_lt}
+use Rattle.std.specs.Ordering.{is_lt, is_eq}
 use Rattle.ledger.specs.Keys.{KeyOps, by_order}
 use Rattle.ledger.specs.declared.store.Full.{Full}
 use Rattle.ledger.specs.declared.store.Size.{Size}
@@ -25,6 +25,11 @@ Rising o (r ∷ rs) = AllAbove o (o.key_of r) rs × Rising o rs
 abbrev pub find_row : {K R : Type 0} → KeyOps K R → K → List R → Option R
 find_row o k [] = None
 find_row o k (r ∷ rs) = by_order (o.order (o.key_of r) k) (find_row o k rs) (Some r) (find_row o k rs)
+
+-- the row, if there is one, has this key
+abbrev pub has_key : {K R : Type 0} → KeyOps K R → K → Option R → Bool
+has_key o k None = false
+has_key o k (Some r) = is_eq (o.order (o.key_of r) k)
 
 -- a row of this key may come next: any at the start, and later one above the key reached
 abbrev pub is_next : {K R : Type 0} → KeyOps K R → Option K → K → Bool
@@ -85,7 +90,8 @@ earlier o join h None = Some h
 earlier o join h (Some s) = by_order (o.order (o.key_of s) (o.key_of h)) (Some s) (Some (join s h)) (Some h)
 
 -- The law of a store, true once it is made and after each call: its keys rise, it has at most its most rows, and what it keeps of its own holds.
+-- What it keeps is only said to hold, not how, so that the law is a fact that a type may carry.
 pub record Kept {K R : Type 0} (o : KeyOps K R) (l : Ledger R) (own : Type 0) : Type 0 where
   pub rising : Rising o l.rows
   pub within : length l.rows ≤ l.most
-  pub own_kept : own
+  pub own_kept : ∥ own ∥₁

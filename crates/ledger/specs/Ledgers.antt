@@ -49,6 +49,12 @@ module _ {K R : Type 0} (o : KeyOps K R) (laws : OrderLaws o) where
   above_at k (s ∷ rs) zero r h e = subst (λ x. o.order k (o.key_of x) ≡ Less) (some_is e) h.0
   above_at k (s ∷ rs) (suc i) r h e = above_at k rs i r h.1 e
 
+  pub rising_at : (rows : List R) (i j : ℕ) (r s : R) → i < j → Rising o rows → slice_get rows i ≡ Some r → slice_get rows j ≡ Some s → o.order (o.key_of r) (o.key_of s) ≡ Less
+  rising_at [] i j r s l h e f = absurd (none≢some refl e)
+  rising_at (x ∷ xs) i zero r s l h e f = absurd (omega arith)
+  rising_at (x ∷ xs) zero (suc j) r s l h e f = subst (λ y. o.order (o.key_of y) (o.key_of s) ≡ Less) (some_is e) (above_at (o.key_of x) xs j s h.0 f)
+  rising_at (x ∷ xs) (suc i) (suc j) r s l h e f = rising_at xs i j r s (omega arith) h.1 e f
+
   pub find_above : (k : K) (rows : List R) → AllAbove o k rows → find_row o k rows ≡ None
   find_above k [] h = refl
   find_above k (r ∷ rs) h = rw (less_greater k (o.key_of r) h.0) (find_above k rs h.1)
@@ -369,6 +375,6 @@ module _ {K R : Type 0} (o : KeyOps K R) (laws : OrderLaws o) (join : R → R �
       ⊎_elim
       (λ t.
       subst (λ x. Kept o x new) (sym (put_taken o join r l t))
-      (record { rising = put_rising o laws join joins r l.rows k.rising; within = length_taken r l k.rising t k.within; own_kept = n }))
-      (λ f. subst (λ x. Kept o x new) (sym (put_refused o join r l f)) (record { rising = k.rising; within = k.within; own_kept = n }))
+      (record { rising = put_rising o laws join joins r l.rows k.rising; within = length_taken r l k.rising t k.within; own_kept = ∣ n ∣₁ }))
+      (λ f. subst (λ x. Kept o x new) (sym (put_refused o join r l f)) (record { rising = k.rising; within = k.within; own_kept = ∣ n ∣₁ }))
       (cases_Bool (takes o r l))

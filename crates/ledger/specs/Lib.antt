@@ -5,4 +5,5 @@ pub mod Rows
 pub mod Sums
 pub mod RowLaws
 pub mod Ledgers
+pub mod Props
 pub mod LexLaws

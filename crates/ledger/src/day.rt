@@ -1,6 +1,5 @@
 // The day: the traffic of one day and point, and its earliest and latest start.
 ghost use Rattle.std.specs.Prelude.{◌≡◌, [], ◌∷◌};
-ghost use Rattle.ledger.specs.Lex.{lex_order};
 ghost use Rattle.ledger.specs.Rows.{day_figures, day_keys, join_days, day_row_of, day_cell, day_cell_order};
 ghost use Rattle.ledger.specs.RowLaws.{day_order, day_joins, day_row_back, day_ranked};
 
@@ -10,13 +9,14 @@ use std::cmp::Ordering;
 use values::calendar::{Day, TimeOfDay};
 use values::labels::Point;
 
-#[derive(Clone, Copy)]
+// Keys are ordered by day, then by point.
+#[derive(Clone, Copy, PartialEq, Eq, PartialOrd, Ord)]
 pub struct DayKey {
     pub day: Day,
     pub point: Point,
 }
 
-#[derive(Clone, Copy)]
+#[derive(Clone, Copy, PartialEq, Eq)]
 pub struct DayRow {
     pub key: DayKey,
     pub traffic: Traffic,
@@ -25,7 +25,7 @@ pub struct DayRow {
 }
 
 // A day as plain numbers.
-#[derive(Clone, Copy)]
+#[derive(Clone, Copy, PartialEq, Eq, Default)]
 pub struct DayCell {
     pub day: u32,
     pub point: u128,
@@ -33,15 +33,6 @@ pub struct DayCell {
     pub tenths: u64,
     pub earliest: u32,
     pub latest: u32,
-}
-
-// The figures of two keys: day, point. The first that differ decide.
-fn compare_figures(a: (u32, u128), b: (u32, u128)) -> Ordering
-    ensures { result ≡ lex_order (a.0 ∷ (a.1 ∷ [])) (b.0 ∷ (b.1 ∷ [])) }
-{
-    let day = a.0.cmp(&b.0);
-    let point = a.1.cmp(&b.1);
-    day.then(point)
 }
 
 impl DayKey {
@@ -68,7 +59,7 @@ impl Row for DayRow {
     }
 
     fn compare(a: &DayKey, b: &DayKey) -> Ordering {
-        compare_figures(a.figures(), b.figures())
+        a.cmp(b)
     }
 
     fn join(self, other: DayRow) -> DayRow {
@@ -121,6 +112,6 @@ impl TableRow for DayRow {
     }
 
     fn compare_cell(cell: &DayCell, key: &DayKey) -> Ordering {
-        compare_figures((cell.day, cell.point), key.figures())
+        (cell.day, cell.point).cmp(&key.figures())
     }
 }

@@ -1,6 +1,5 @@
 // The line: the traffic of one month, point, descriptor and tariff.
 ghost use Rattle.std.specs.Prelude.{◌≡◌, [], ◌∷◌};
-ghost use Rattle.ledger.specs.Lex.{lex_order};
 ghost use Rattle.ledger.specs.Rows.{line_figures, line_keys, join_lines, line_of, line_cell, line_cell_order};
 ghost use Rattle.ledger.specs.RowLaws.{line_order, line_joins, line_back, line_ranked};
 
@@ -11,7 +10,8 @@ use values::calendar::Month;
 use values::labels::{Descriptor, Point};
 use values::rates::Tariff;
 
-#[derive(Clone, Copy)]
+// Keys are ordered by month, then by point, descriptor and tariff.
+#[derive(Clone, Copy, PartialEq, Eq, PartialOrd, Ord)]
 pub struct LineKey {
     pub month: Month,
     pub point: Point,
@@ -19,14 +19,14 @@ pub struct LineKey {
     pub tariff: Tariff,
 }
 
-#[derive(Clone, Copy)]
+#[derive(Clone, Copy, PartialEq, Eq)]
 pub struct LineRow {
     pub key: LineKey,
     pub traffic: Traffic,
 }
 
 // A line as plain numbers.
-#[derive(Clone, Copy)]
+#[derive(Clone, Copy, PartialEq, Eq, Default)]
 pub struct LineCell {
     pub month: u32,
     pub point: u128,
@@ -34,17 +34,6 @@ pub struct LineCell {
     pub tariff: u32,
     pub calls: u64,
     pub tenths: u64,
-}
-
-// The figures of two keys: month, point, descriptor, tariff. The first that differ decide.
-fn compare_figures(a: (u32, u128, u64, u32), b: (u32, u128, u64, u32)) -> Ordering
-    ensures { result ≡ lex_order (a.0 ∷ (a.1 ∷ (a.2 ∷ (a.3 ∷ [])))) (b.0 ∷ (b.1 ∷ (b.2 ∷ (b.3 ∷ [])))) }
-{
-    let month = a.0.cmp(&b.0);
-    let point = a.1.cmp(&b.1);
-    let descriptor = a.2.cmp(&b.2);
-    let tariff = a.3.cmp(&b.3);
-    month.then(point).then(descriptor).then(tariff)
 }
 
 impl LineKey {
@@ -75,7 +64,7 @@ impl Row for LineRow {
     }
 
     fn compare(a: &LineKey, b: &LineKey) -> Ordering {
-        compare_figures(a.figures(), b.figures())
+        a.cmp(b)
     }
 
     fn join(self, other: LineRow) -> LineRow {
@@ -126,9 +115,6 @@ impl TableRow for LineRow {
     }
 
     fn compare_cell(cell: &LineCell, key: &LineKey) -> Ordering {
-        compare_figures(
-            (cell.month, cell.point, cell.descriptor, cell.tariff),
-            key.figures(),
-        )
+        (cell.month, cell.point, cell.descriptor, cell.tariff).cmp(&key.figures())
     }
 }

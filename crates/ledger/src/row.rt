@@ -2,6 +2,7 @@
 ghost use Rattle.std.specs.Prelude.{◌≡◌, Some, Option};
 ghost use Rattle.std.specs.declared.cmp.Ordering.{Ordering};
 ghost use Rattle.ledger.specs.Keys.{KeyOps, OrderLaws, JoinLaws};
+ghost use Rattle.ledger.specs.Ledger.{has_key, join_to, is_next, earlier};
 
 use std::cmp::Ordering;
 
@@ -55,4 +56,42 @@ pub trait TableRow: Row {
 
     // A cell is ordered as the row that it holds.
     ghost ranked: { (c : Self.Cell) (k : Self.Key) (r : Self) → row_of c ≡ Some r → cell_order c k ≡ Self.Row.keys.order (Self.Row.keys.key_of r) k };
+}
+
+// Whether the row has this key.
+pub fn has_key<R: Row>(row: Option<R>, key: R::Key) -> bool
+    ensures { result ≡ has_key R.Row.keys key row }
+{
+    row.is_some_and(|row| R::compare(&row.key(), &key).is_eq())
+}
+
+// The second row joined to the first, or alone.
+pub fn join_to<R: Row>(first: Option<R>, second: R) -> R
+    ensures { result ≡ join_to R.Row.joined first second }
+{
+    match first {
+        Some(first) => first.join(second),
+        None => second,
+    }
+}
+
+// Whether a row of this key may come next.
+pub fn is_next<R: Row>(after: Option<R::Key>, key: R::Key) -> bool
+    ensures { result ≡ is_next R.Row.keys after key }
+{
+    after.is_none_or(|from| R::compare(&from, &key).is_lt())
+}
+
+// Which of the two comes first; rows of one key are joined.
+pub fn earlier<R: Row>(row: R, other: Option<R>) -> Option<R>
+    ensures { result ≡ earlier R.Row.keys R.Row.joined row other }
+{
+    let Some(other) = other else {
+        return Some(row);
+    };
+    match R::compare(&other.key(), &row.key()) {
+        Ordering::Less => Some(other),
+        Ordering::Equal => Some(other.join(row)),
+        Ordering::Greater => Some(row),
+    }
 }

@@ -5,13 +5,13 @@ ghost use Rattle.ledger.specs.Ledger.{Ledger, Kept, find_row, next_row, put_in, 
 use crate::row::Row;
 
 // The row that found no place.
-#[derive(Clone, Copy)]
+#[derive(Clone, Copy, PartialEq, Eq, Debug)]
 pub struct Full<R> {
     pub row: R,
 }
 
 // How many rows a store holds, and how many it holds at most.
-#[derive(Clone, Copy)]
+#[derive(Clone, Copy, PartialEq, Eq, Debug)]
 pub struct Size {
     pub rows: usize,
     pub most: usize,
@@ -31,7 +31,8 @@ pub trait RowStore {
         ensures answer { result ≡ find_row Self.Row.Row.keys key (ledger self.old).rows }
         ensures same { self.new ≡ self.old };
 
-    // The first row, or the first above a key.
+    // The first row, or the first above a key. By reference, since an impl whose row type is a parameter gets no clauses
+    // for an Option of its key by value.
     fn next(&mut self, after: &Option<<Self::Row as Row>::Key>) -> Option<Self::Row>
         requires { Kept Self.Row.Row.keys (ledger self.old) (kept self.old) }
         ensures answer { result ≡ next_row Self.Row.Row.keys after.now (ledger self.old).rows }

@@ -4,7 +4,7 @@ mod sums;
 ghost use Rattle.ledger.specs.Sums.{IsTraffic};
 
 // Calls and tenths of a minute, each up to its largest value.
-#[derive(Clone, Copy)]
+#[derive(Clone, Copy, PartialEq, Eq)]
 pub struct Traffic {
     calls: u64,
     tenths: u64,

@@ -1,16 +1,18 @@
 -- The steps of a binary search in a table, and of an insertion.
-use Rattle.std.proofs.Common.{◌≡◌, ℕ, zero, suc, ◌+◌, ◌-◌, ◌/◌, ◌<◌, ◌≤◌, Bool, true, false, cond, ltb, List, [], ◌∷◌, ◌++◌, map, length, get_or, take, drop, set, is_some, Some, None, Ok, Err, Option, Ordering, Less, Equal, Greater, sym, refl, ap, ◌∙◌, subst, arith}
+use Rattle.std.proofs.Common.{◌≡◌, ℕ, zero, suc, ◌+◌, ◌-◌, ◌<◌, ◌≤◌, Bool, true, false, cond, ltb, List, [], ◌∷◌, ◌++◌, map, length, get_or, take, drop, set, is_some, Some, None, Ok, Err, Option, Ordering, Less, Equal, Greater, sym, refl, ap, ◌∙◌, subst, inl, inr, ⊎_elim, ◌⊎◌, Result, arith}
 use borrow.Rule.Slice.PartMut.{put_mid}
-use Rattle.std.specs.List.{slice_get, between}
-use Rattle.std.proofs.lemmas.List.{length-take-le, length-set, length-append, length-drop, take-set-le, take-take, take_more_set, take_at, drop_at, drop-append-le}
-use Rattle.std.proofs.lemmas.Option.{slice_get_past}
-use Rattle.std.proofs.lemmas.Bool.{false≢true, or_left, or_right, or_from, lt-ltb, le-ltb}
+use Rattle.std.specs.List.{slice_get, between, AllWithin, HoldsAt}
+use Rattle.std.specs.List.Sorted.{IsBinarySearchResult, IsNonDecreasingBy, IsSearchInRange}
+use Rattle.std.specs.Ordering.{ordering_index}
+use Rattle.std.proofs.lemmas.List.{length-take-le, length-set, length-append, length-drop, length-map, get_or-map, take-set-le, take-take, take_more_set, take_at, drop_at, drop-append-le}
+use Rattle.std.proofs.lemmas.Option.{slice_get-get_or, slice_get_cases, slice_get_within}
+use Rattle.std.proofs.lemmas.Bool.{false≢true, or_left, or_right, or_from, lt-ltb, le-ltb, cases_order}
 use Rattle.std.proofs.lemmas.Slice.{between_is, take-put_mid}
 use Rattle.ledger.specs.Keys.{KeyOps, OrderLaws, JoinLaws}
 use Rattle.ledger.specs.Ledger.{Rising, find_row, next_row, put_row, holds, takes, position, place}
 use Rattle.stores.specs.Table.{table_rows, table_ledger, Table, TablePut}
-use Rattle.ledger.specs.Ledgers.{none≢some, less≢greater, position_le, position_after, position_upto, position_at, find_at, find_none, nth_found, next_at, find_key, put_rising}
-use Rattle.stores.proofs.Tables.{Stands, row_ranked, table_rows_lem, table_of, cells_held, cells_new}
+use Rattle.ledger.specs.Ledgers.{less≢greater, position_le, position_after, position_upto, position_at, find_at, find_none, rising_at, nth_found, next_at, find_key, put_rising}
+use Rattle.stores.proofs.Tables.{table_rows_lem, table_of, cells_held, cells_new}
 
 some_is : {X : Type 0} {x y : X} → Some x ≡ Some y → x ≡ y
 some_is e = cc
@@ -20,57 +22,83 @@ nth_within [] i e = absurd (false≢true e)
 nth_within (x ∷ xs) zero e = omega arith
 nth_within (x ∷ xs) (suc i) e = let h = nth_within xs i e in omega arith
 
--- the key's place lies from low to high, and what stands at high has a larger key
-abbrev pub Between : {K R : Type 0} → KeyOps K R → List R → K → ℕ → ℕ → ℕ → Type 0
-Between {R = R} o rows k low high n =
-    (low ≤ position o k rows) × (position o k rows ≤ high) × (high ≤ n) × ((r : R) → slice_get rows high ≡ Some r → o.order (o.key_of r) k ≡ Greater)
-
-module _ {K R : Type 0} (o : KeyOps K R) (laws : OrderLaws o) (rows : List R) (rising : Rising o rows) (k : K) where
-  pub starts : (n : ℕ) → length rows ≡ n → Between o rows k 0 n n
-  starts n e =
-      let p = position_le o laws k rows in
-      (omega arith, omega arith, omega arith, λ r q. absurd (none≢some (slice_get_past rows n (omega arith)) q))
-
-  module _ (low high n m : ℕ) (b : Between o rows k low high n) where
-    goes_up : Stands o rows m k Less → Between o rows k (m + 1) high n
-    goes_up s =
-        let p = position_after o laws k rows m s.row rising s.here (sym s.ranked) in
-        (omega arith, b.1, b.2, b.3)
-
-    goes_down : m < high → Stands o rows m k Greater → Between o rows k low m n
-    goes_down h s =
-        let g = sym s.ranked in
-        let p = position_upto o laws k rows m s.row s.here (λ l. less≢greater l g) in
-        (b.0, p, let q = b.2 in omega arith, λ r q. let same : r ≡ s.row = some_is (sym q ∙ s.here) in subst (λ y. o.order (o.key_of y) k ≡ Greater) (sym same) g)
-
-  ends_at : (m : ℕ) → Stands o rows m k Equal → Ok m ≡ place o k rows
-  ends_at m s =
-      let q = sym s.ranked in
-      rw (find_at o laws k rows m s.row rising s.here q, position_at o laws k rows m s.row rising s.here q)
-
-  pub ends_without : (low high n : ℕ) → Between o rows k low high n → high ≤ low → Err low ≡ place o k rows
-  ends_without low high n b h =
-      let l : low ≡ position o k rows = let p = b.0 in let q = b.1 in omega arith in
-      let g : high ≡ position o k rows = let p = b.0 in let q = b.1 in omega arith in
-      let none = find_none o laws k rows rising (λ r q. b.3 r (ap (slice_get rows) g ∙ q)) in
-      rw none (ap Err l)
-
--- one probe: between low and high the cell x stands in the middle
+-- where a binary search of the cells ends
 module _ {K C R : Type 0} (o : KeyOps K R) (laws : OrderLaws o) (of : C → Option R) (cell : R → C) (read : (r : R) → of (cell r) ≡ Some r)
     (rank : C → K → Ordering) (ranked : (c : C) (k : K) (r : R) → of c ≡ Some r → rank c k ≡ o.order (o.key_of r) k)
-    (cells : List C) (n : ℕ) (t : Table o of cell cells n) (k : K) (low high : ℕ) (b : Between o (table_rows of cells n) k low high n) (h : low < high)
-    (x : C) (at : x ≡ get_or cells (low + (high - low) / 2) x) where
-  stands : (v : Ordering) → v ≡ rank x k → Stands o (table_rows of cells n) (low + (high - low) / 2) k v
-  stands v e = row_ranked o of cell read rank ranked cells n (low + (high - low) / 2) x t (let w = b.2 in omega arith) at k v e
+    (rows : List R) (rising : Rising o rows) (k : K) where
+  row_at : (i : ℕ) → i < length rows → (r : R) × (slice_get rows i ≡ Some r)
+  row_at i h = ⊎_elim (λ p. (p.0, p.2)) (λ q. absurd (let e = q.0 in omega arith)) (slice_get_cases rows i).1
 
-  pub probed_less : Less ≡ rank x k → Between o (table_rows of cells n) k (low + (high - low) / 2 + 1) high n
-  probed_less e = goes_up o laws (table_rows of cells n) t.rising k low high n (low + (high - low) / 2) b (stands Less e)
+  cell_at : (i : ℕ) (r : R) (d : C) → slice_get rows i ≡ Some r → get_or (map cell rows) i d ≡ cell r
+  cell_at i r d e =
+      let h = slice_get_within rows i r e in
+      get_or-map cell rows i r d h ∙ ap cell (some_is (sym (slice_get-get_or rows i r h) ∙ e))
 
-  pub probed_equal : Equal ≡ rank x k → Ok (low + (high - low) / 2) ≡ place o k (table_rows of cells n)
-  probed_equal e = ends_at o laws (table_rows of cells n) t.rising k (low + (high - low) / 2) (stands Equal e)
+  -- a cell is ranked as the row that it holds
+  rank_at : (i : ℕ) (r : R) (d : C) → slice_get rows i ≡ Some r → rank (get_or (map cell rows) i d) k ≡ o.order (o.key_of r) k
+  rank_at i r d e = ap (λ c. rank c k) (cell_at i r d e) ∙ ranked (cell r) k r (read r)
 
-  pub probed_greater : Greater ≡ rank x k → Between o (table_rows of cells n) k low (low + (high - low) / 2) n
-  probed_greater e = goes_down o laws (table_rows of cells n) t.rising k low high n (low + (high - low) / 2) b (omega arith) (stands Greater e)
+  rank_is : (i : ℕ) (r : R) (v : Ordering) → HoldsAt (λ c. rank c k ≡ v) (map cell rows) i → slice_get rows i ≡ Some r → o.order (o.key_of r) k ≡ v
+  rank_is i r v h e = sym (rank_at i r (cell r) e) ∙ h (cell r)
+
+  index_low : (v w : Ordering) → (w ≡ Less → v ≡ Less) → (w ≡ Equal → v ≡ Less) → ordering_index v ≤ ordering_index w
+  index_low v Less l e = rw (l refl) (omega arith)
+  index_low v Equal l e = rw (e refl) (omega arith)
+  index_low Less Greater l e = omega arith
+  index_low Equal Greater l e = omega arith
+  index_low Greater Greater l e = omega arith
+
+  -- the cells are ranked in their order
+  ranks_rise : IsNonDecreasingBy (λ c. ordering_index (rank c k)) (map cell rows)
+  ranks_rise i j d h below =
+      let long : length (map cell rows) ≡ length rows = length-map rows cell in
+      let b = row_at j (omega arith) in
+      let a = row_at i (omega arith) in
+      rw (rank_at i a.0 d a.1, rank_at j b.0 d b.1)
+      (⊎_elim
+      (λ e. let same : a.0 ≡ b.0 = some_is (sym a.1 ∙ ap (slice_get rows) e ∙ b.1) in rw same (omega arith))
+      (⊎_elim
+      (λ l.
+      let under = rising_at o laws rows i j a.0 b.0 l rising a.1 b.1 in
+      index_low (o.order (o.key_of a.0) k) (o.order (o.key_of b.0) k)
+      (λ q. laws.transitive (o.key_of a.0) (o.key_of b.0) k under q)
+      (λ q. subst (λ x. o.order (o.key_of a.0) x ≡ Less) (laws.identical (o.key_of b.0) k q) under))
+      (λ g. absurd (omega arith)))
+      (cases_order i j))
+
+  found_at : (i : ℕ) → i < length rows → HoldsAt (λ c. rank c k ≡ Equal) (map cell rows) i → Ok i ≡ place o k rows
+  found_at i h here =
+      let r = row_at i h in
+      let q = rank_is i r.0 Equal here r.1 in
+      rw (find_at o laws k rows i r.0 rising r.1 q, position_at o laws k rows i r.0 rising r.1 q)
+
+  -- the key belongs where the cells below it end
+  belongs : (i : ℕ) → i ≤ length rows → AllWithin (λ c. rank c k ≡ Less) (map cell rows) 0 i → AllWithin (λ c. rank c k ≡ Greater) (map cell rows) i (length rows) → position o k rows ≡ i
+  belongs i h low high = let a = upto (cases_order i (length rows)) in let b = from i h low in omega arith
+    where
+      upto : (i ≡ length rows) ⊎ ((i < length rows) ⊎ (length rows < i)) → position o k rows ≤ i
+      upto (inl e) = let p = position_le o laws k rows in omega arith
+      upto (inr (inl l)) =
+          let r = row_at i l in
+          position_upto o laws k rows i r.0 r.1 (λ q. less≢greater q (rank_is i r.0 Greater (λ d. high i d (omega arith) l) r.1))
+      upto (inr (inr g)) = absurd (omega arith)
+
+      from : (n : ℕ) → n ≤ length rows → AllWithin (λ c. rank c k ≡ Less) (map cell rows) 0 n → n ≤ position o k rows
+      from zero n_le below = omega arith
+      from (suc m) n_le below =
+          let r = row_at m (omega arith) in
+          let p = position_after o laws k rows m r.0 rising r.1 (rank_is m r.0 Less (λ d. below m d (omega arith) (omega arith)) r.1) in
+          omega arith
+
+  pub searched : (r : Result ℕ ℕ) → IsSearchInRange r (length rows) → IsBinarySearchResult (λ c. rank c k) (map cell rows) r → r ≡ place o k rows
+  searched (Ok i) h q = found_at i h q
+  searched (Err i) h q =
+      let long : length (map cell rows) ≡ length rows = length-map rows cell in
+      let parts = q ranks_rise in
+      let at = belongs i h parts.0 (λ m d l u. parts.1 m d l (omega arith)) in
+      let none = find_none o laws k rows rising (λ r e. let e2 : slice_get rows i ≡ Some r = ap (slice_get rows) (sym at) ∙ e in
+      rank_is i r Greater (λ d. parts.1 i d (omega arith) (let w = slice_get_within rows i r e2 in omega arith)) e2) in
+      rw none (ap Err (sym at))
 
 -- what the end of a search tells
 place_ok : (b : Bool) (i p : ℕ) → Ok i ≡ cond b (Ok p) (Err p) → (b ≡ true) × (i ≡ p)

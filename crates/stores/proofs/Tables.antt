@@ -5,6 +5,7 @@ use Rattle.std.specs.List.{slice_get}
 use Rattle.std.specs.Option.{option_map}
 use Rattle.std.proofs.lemmas.List.{length-take-le, length-map, map-set, map-append, take-map, drop-map}
 use Rattle.std.proofs.lemmas.Option.{slice_get_read}
+use Rattle.std.specs.Option.{IsSome}
 use Rattle.ledger.specs.Keys.{KeyOps, OrderLaws}
 use Rattle.ledger.specs.Ledger.{Rising, find_row, put_row, position}
 use Rattle.stores.specs.Table.{rows_of, table_rows, Table}
@@ -93,3 +94,8 @@ module _ {K C R : Type 0} (o : KeyOps K R) (of : C → Option R) (cell : R → C
         ∙ sym (map-append cell (take i rows) (r ∷ drop i rows))
         ∙ ap (λ p. map cell (take p rows ++ (r ∷ drop p rows))) at
         ∙ ap (map cell) (sym (put_new o laws join r rows none))
+
+-- what is not none is there
+pub is_there : {X : Type 0} (v : Option X) → (v ≡ None → ⊥) → IsSome v
+is_there None h = absurd (h refl)
+is_there (Some x) h = refl

@@ -1,8 +1,11 @@
 -- A table: the rows that the first cells of a slice hold.
 use Rattle.std.specs.Prelude.{◌≡◌, ℕ, ◌≤◌, true, false, List, [], ◌∷◌, ◌++◌, map, length, take, Ok, Err, Option, Result}
 use Rattle.std.specs.Option.{option_to_list}
+use Rattle.std.specs.Coded.{Coded, Coded-set, coded_list, coded_ℕ}
+use Rattle.std.proofs.Math.Bridge.{le_prop}
 use Rattle.ledger.specs.Keys.{KeyOps}
 use Rattle.ledger.specs.Ledger.{Ledger, Rising, put_row, takes, with_rows}
+use Rattle.ledger.specs.Props.{Rising-prop}
 use Rattle.ledger.specs.declared.row.Row as Row
 use Rattle.ledger.specs.declared.row.TableRow as TableRow
 use Rattle.ledger.specs.declared.store.Full.{Full}
@@ -47,3 +50,11 @@ Tabled row table cells n = Table row.keys table.row_of table.cell_of cells n
 
 abbrev pub Put : {K C R : Type 0} → Row.Ghosts R K → TableRow.Ghosts R C K → R → List C → ℕ → List C → Result ℕ (Full R) → Type 0
 Put row table r old n new answer = TablePut row.keys table.row_of table.cell_of row.joined r old n new answer
+
+pub Tabled-prop : {K C R : Type 0} → Coded C → (row : Row.Ghosts R K) (table : TableRow.Ghosts R C K) (cells : List C) (n : ℕ) → IsProp (Tabled row table cells n)
+Tabled-prop code row table cells n u v = λ i. record {
+  within = le_prop u.within v.within i;
+  whole = Coded-set (coded_list code) _ _ u.whole v.whole i;
+  counted = Coded-set coded_ℕ _ _ u.counted v.counted i;
+  rising = Rising-prop row.keys (rows_in table cells n) u.rising v.rising i;
+}

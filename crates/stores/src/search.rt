@@ -6,7 +6,6 @@ ghost use Rattle.stores.specs.Table.{Tabled, Put, rows_in};
 
 use ledger::row::{Row, TableRow};
 use ledger::store::Full;
-use std::cmp::Ordering;
 
 // The row at `i`, one of the first `len`.
 pub fn row_at<R: TableRow>(cells: &[R::Cell], len: usize, i: usize) -> R
@@ -14,10 +13,7 @@ pub fn row_at<R: TableRow>(cells: &[R::Cell], len: usize, i: usize) -> R
     requires within { i < len }
     ensures { slice_get (rows_in R.TableRow.own cells.now len) i ≡ Some result }
 {
-    match R::from_cell(cells[i]) {
-        Some(row) => row,
-        None => unreachable(),
-    }
+    R::from_cell(cells[i]).unwrap()
 }
 
 // Where the key stands, or where it belongs.
@@ -26,17 +22,7 @@ pub fn search<R: TableRow>(cells: &[R::Cell], len: usize, key: R::Key) -> Result
     ensures found { result ≡ place R.Row.keys key (rows_in R.TableRow.own cells.now len) }
     ensures within { MatchResult result (λ i. i < len) (λ i. i ≤ len) }
 {
-    let mut low = 0;
-    let mut high = len;
-    while low < high {
-        let middle = low + (high - low) / 2;
-        match R::compare_cell(&cells[middle], &key) {
-            Ordering::Less => low = middle + 1,
-            Ordering::Equal => return Ok(middle),
-            Ordering::Greater => high = middle,
-        }
-    }
-    Err(low)
+    cells[..len].binary_search_by(|cell| R::compare_cell(cell, &key))
 }
 
 // One cell more at `at`; those from there on move up by one.
@@ -55,30 +41,28 @@ pub fn find_row<R: TableRow>(cells: &mut [R::Cell], len: usize, key: R::Key) -> 
     ensures found { result ≡ find_row R.Row.keys key (rows_in R.TableRow.own cells.old len) }
     ensures same { cells.new ≡ cells.old }
 {
-    match search::<R>(cells, len, key) {
-        Ok(at) => Some(row_at::<R>(cells, len, at)),
-        Err(_) => None,
-    }
+    let at = search::<R>(cells, len, key).ok()?;
+    Some(row_at::<R>(cells, len, at))
 }
 
 // The index of the first row, or of the first above a key.
-fn next_at<R: TableRow>(cells: &[R::Cell], len: usize, after: &Option<R::Key>) -> usize
+fn next_at<R: TableRow>(cells: &[R::Cell], len: usize, after: Option<R::Key>) -> usize
     requires { Tabled R.Row R.TableRow.own cells.now len }
-    ensures { slice_get (rows_in R.TableRow.own cells.now len) result ≡ next_row R.Row.keys after.now (rows_in R.TableRow.own cells.now len) }
+    ensures { slice_get (rows_in R.TableRow.own cells.now len) result ≡ next_row R.Row.keys after (rows_in R.TableRow.own cells.now len) }
 {
     let Some(key) = after else {
         return 0;
     };
-    match search::<R>(cells, len, *key) {
+    match search::<R>(cells, len, key) {
         Ok(at) => at + 1,
         Err(at) => at,
     }
 }
 
 // The first row, or the first above a key.
-pub fn next_row<R: TableRow>(cells: &mut [R::Cell], len: usize, after: &Option<R::Key>) -> Option<R>
+pub fn next_row<R: TableRow>(cells: &mut [R::Cell], len: usize, after: Option<R::Key>) -> Option<R>
     requires { Tabled R.Row R.TableRow.own cells.old len }
-    ensures found { result ≡ next_row R.Row.keys after.now (rows_in R.TableRow.own cells.old len) }
+    ensures found { result ≡ next_row R.Row.keys after (rows_in R.TableRow.own cells.old len) }
     ensures same { cells.new ≡ cells.old }
 {
     let at = next_at::<R>(cells, len, after);

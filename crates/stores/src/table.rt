@@ -37,7 +37,7 @@ impl<'a, R: TableRow> RowStore for TableStore<'a, R> {
 
     fn next(&mut self, after: &Option<R::Key>) -> Option<R> {
         let len = self.len;
-        next_row::<R>(self.cells, len, after)
+        next_row::<R>(self.cells, len, *after)
     }
 
     fn size(&mut self) -> Size {

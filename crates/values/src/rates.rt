@@ -7,7 +7,7 @@ ghost use Rattle.std.specs.Prelude.{◌+◌, ◌≤◌};
 ghost use Rattle.values.specs.Rates.{IsScenario};
 
 // A tariff in millionths of a real per minute.
-#[derive(Clone, Copy, PartialEq, Eq)]
+#[derive(Clone, Copy, PartialEq, Eq, PartialOrd, Ord)]
 pub struct Tariff {
     number: u32,
     ghost ok: { number ≤ 9999999 },

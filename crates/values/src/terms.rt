@@ -7,7 +7,7 @@ ghost use Rattle.values.specs.Rates.{IsCarrier};
 use crate::rates::TaxRates;
 
 // A carrier by its code, 001 to 999.
-#[derive(Clone, Copy, PartialEq, Eq)]
+#[derive(Clone, Copy, PartialEq, Eq, PartialOrd, Ord)]
 pub struct Carrier {
     code: u32,
     ghost ok: { IsCarrier code },

@@ -1,11 +1,12 @@
 // Days of the calendar.
 ghost use Rattle.std.specs.Prelude.{◌≡◌};
 ghost use Rattle.values.specs.Calendar.{days_in, is_day, is_leap};
-ghost use Rattle.values.specs.Values.{day_of, day_in, month_of_day};
+ghost use Rattle.std.proofs.Common.{rules};
+ghost use Rattle.values.specs.Values.{day_of, month_of_day};
 
 use super::months::is_month;
 use super::{Day, Month};
-use digits::read_decimal;
+use crate::decimal::Decimal;
 
 // Whether February of the year has 29 days.
 fn is_leap(year: u32) -> bool
@@ -42,13 +43,6 @@ impl Day {
         }
     }
 
-    // From eight digits.
-    pub fn read(bytes: &[u8]) -> Option<Day>
-        ensures { result ≡ day_in bytes.now }
-    {
-        Day::new(read_decimal(bytes, 8)? as u32)
-    }
-
     pub fn number(self) -> u32
         ensures { result ≡ self.number }
     {
@@ -61,5 +55,19 @@ impl Day {
         Month {
             number: self.number / 100,
         }
+    }
+}
+
+impl Decimal for Day {
+    const WIDTH: usize = 8;
+
+    ghost WIDTH = { 8 };
+
+    ghost of = { day_of };
+
+    ghost narrow = { Prim.search rules };
+
+    fn from_number(number: u32) -> Option<Day> {
+        Day::new(number)
     }
 }

@@ -1,9 +1,10 @@
 // Durations of calls.
 ghost use Rattle.std.specs.Prelude.{◌≡◌};
-ghost use Rattle.values.specs.Values.{duration_of, duration_in};
+ghost use Rattle.std.proofs.Common.{rules};
+ghost use Rattle.values.specs.Values.{duration_of};
 
 use super::Duration;
-use digits::read_decimal;
+use crate::decimal::Decimal;
 
 impl Duration {
     // From HHHMMSS, minutes and seconds under 60.
@@ -18,16 +19,23 @@ impl Duration {
         }
     }
 
-    // From seven digits.
-    pub fn read(bytes: &[u8]) -> Option<Duration>
-        ensures { result ≡ duration_in bytes.now }
-    {
-        Duration::new(read_decimal(bytes, 7)? as u32)
-    }
-
     pub fn seconds(self) -> u32
         ensures { result ≡ self.seconds }
     {
         self.seconds
+    }
+}
+
+impl Decimal for Duration {
+    const WIDTH: usize = 7;
+
+    ghost WIDTH = { 7 };
+
+    ghost of = { duration_of };
+
+    ghost narrow = { Prim.search rules };
+
+    fn from_number(number: u32) -> Option<Duration> {
+        Duration::new(number)
     }
 }

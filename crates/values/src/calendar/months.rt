@@ -1,10 +1,11 @@
 // Months are made from their numbers after a check.
 ghost use Rattle.std.specs.Prelude.{◌≡◌};
 ghost use Rattle.values.specs.Calendar.{in_window, is_month, month_index};
-ghost use Rattle.values.specs.Values.{month_of, month_in};
+ghost use Rattle.std.proofs.Common.{rules};
+ghost use Rattle.values.specs.Values.{month_of};
 
 use super::Month;
-use digits::read_decimal;
+use crate::decimal::Decimal;
 
 pub fn is_month(number: u32) -> bool
     ensures { result ≡ is_month number }
@@ -21,13 +22,6 @@ impl Month {
         } else {
             None
         }
-    }
-
-    // From six digits.
-    pub fn read(bytes: &[u8]) -> Option<Month>
-        ensures { result ≡ month_in bytes.now }
-    {
-        Month::new(read_decimal(bytes, 6)? as u32)
     }
 
     pub fn number(self) -> u32
@@ -48,5 +42,19 @@ impl Month {
         ensures { result ≡ in_window reference.number back self.number }
     {
         reference.number >= self.number && reference.index() <= self.index() + u32::from(back)
+    }
+}
+
+impl Decimal for Month {
+    const WIDTH: usize = 6;
+
+    ghost WIDTH = { 6 };
+
+    ghost of = { month_of };
+
+    ghost narrow = { Prim.search rules };
+
+    fn from_number(number: u32) -> Option<Month> {
+        Month::new(number)
     }
 }

@@ -1,9 +1,10 @@
 // Times of day.
 ghost use Rattle.std.specs.Prelude.{◌≡◌};
-ghost use Rattle.values.specs.Values.{time_of, time_in, earlier, later};
+ghost use Rattle.std.proofs.Common.{rules};
+ghost use Rattle.values.specs.Values.{time_of, earlier, later};
 
 use super::TimeOfDay;
-use digits::read_decimal;
+use crate::decimal::Decimal;
 
 impl TimeOfDay {
     pub fn new(number: u32) -> Option<TimeOfDay>
@@ -16,13 +17,6 @@ impl TimeOfDay {
         }
     }
 
-    // From six digits.
-    pub fn read(bytes: &[u8]) -> Option<TimeOfDay>
-        ensures { result ≡ time_in bytes.now }
-    {
-        TimeOfDay::new(read_decimal(bytes, 6)? as u32)
-    }
-
     pub fn number(self) -> u32
         ensures { result ≡ self.number }
     {
@@ -32,20 +26,26 @@ impl TimeOfDay {
     pub fn earlier(self, other: TimeOfDay) -> TimeOfDay
         ensures { result ≡ earlier self other }
     {
-        if self.number <= other.number {
-            self
-        } else {
-            other
-        }
+        self.min(other)
     }
 
     pub fn later(self, other: TimeOfDay) -> TimeOfDay
         ensures { result ≡ later self other }
     {
-        if other.number >= self.number {
-            other
-        } else {
-            self
-        }
+        self.max(other)
+    }
+}
+
+impl Decimal for TimeOfDay {
+    const WIDTH: usize = 6;
+
+    ghost WIDTH = { 6 };
+
+    ghost of = { time_of };
+
+    ghost narrow = { Prim.search rules };
+
+    fn from_number(number: u32) -> Option<TimeOfDay> {
+        TimeOfDay::new(number)
     }
 }

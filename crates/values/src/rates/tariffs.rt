@@ -1,9 +1,10 @@
 // Tariffs are made from their numbers after a check.
 ghost use Rattle.std.specs.Prelude.{◌≡◌};
-ghost use Rattle.values.specs.Values.{tariff_of, tariff_in};
+ghost use Rattle.std.proofs.Common.{rules};
+ghost use Rattle.values.specs.Values.{tariff_of};
 
 use super::Tariff;
-use digits::read_decimal;
+use crate::decimal::Decimal;
 
 impl Tariff {
     pub fn new(number: u32) -> Option<Tariff>
@@ -16,16 +17,23 @@ impl Tariff {
         }
     }
 
-    // From seven digits.
-    pub fn read(bytes: &[u8]) -> Option<Tariff>
-        ensures { result ≡ tariff_in bytes.now }
-    {
-        Tariff::new(read_decimal(bytes, 7)? as u32)
-    }
-
     pub fn number(self) -> u32
         ensures { result ≡ self.number }
     {
         self.number
+    }
+}
+
+impl Decimal for Tariff {
+    const WIDTH: usize = 7;
+
+    ghost WIDTH = { 7 };
+
+    ghost of = { tariff_of };
+
+    ghost narrow = { Prim.search rules };
+
+    fn from_number(number: u32) -> Option<Tariff> {
+        Tariff::new(number)
     }
 }

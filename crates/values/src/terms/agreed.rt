@@ -1,8 +1,10 @@
 // Carriers and terms are made after a check.
 ghost use Rattle.std.specs.Prelude.{◌≡◌};
+ghost use Rattle.std.proofs.Common.{rules};
 ghost use Rattle.values.specs.Values.{carrier_of, terms_of};
 
 use super::{Carrier, Terms};
+use crate::decimal::Decimal;
 use crate::rates::TaxRates;
 
 impl Carrier {
@@ -20,6 +22,20 @@ impl Carrier {
         ensures { result ≡ self.code }
     {
         self.code
+    }
+}
+
+impl Decimal for Carrier {
+    const WIDTH: usize = 3;
+
+    ghost WIDTH = { 3 };
+
+    ghost of = { carrier_of };
+
+    ghost narrow = { Prim.search rules };
+
+    fn from_number(number: u32) -> Option<Carrier> {
+        Carrier::new(number)
     }
 }
 

@@ -6,7 +6,7 @@ use Rattle.stores.proofs.Searches.{next_held, next_new}
 use Rattle.stores.proofs.search.next_at.Goals as goal
 
 pub returns-in_default : goal.returns-in_default
-returns-in_default g c = sym (next_first g.R.Row.keys g.met.R.Row.ordered c.args.after.now _ c.in_default.not-Some)
+returns-in_default g c = sym (next_first g.R.Row.keys g.met.R.Row.ordered c.args.after _ c.in_default.not-Some)
 
 pub returns-in-Ok : goal.returns-in-Ok
 returns-in-Ok g c =
