@@ -1,12 +1,32 @@
 -- What a layer that holds a row back answers, from what the store below answers.
 use Rattle.std.proofs.Common.{◌≡◌, suc, ◌+◌, ◌<◌, Bool, true, false, cond, not, ◌&&◌, ◌||◌, ltb, ◌⊎◌, length, is_some, Some, None, Option, Ordering, Less, Equal, Greater, sym, refl, ap, ◌∙◌, subst, ⊎_elim, arith}
+use mathlib.Core.Bool.{Bool-set}
+use mathlib.Core.HLevel.{Unit-prop}
 use Rattle.std.specs.Ordering.{is_eq}
 use Rattle.std.proofs.lemmas.Bool.{cases_Bool, cond-true, cond-false, or_left, or_right, and_from, and_cases, lt-ltb, false≢true}
 use Rattle.ledger.specs.Keys.{KeyOps, OrderLaws, JoinLaws, by_order}
-use Rattle.ledger.specs.Ledger.{Ledger, Rising, find_row, next_row, is_next, put_row, put_in, holds, takes, with_rows, join_to, earlier, size_of}
+use Rattle.ledger.specs.Ledger.{Ledger, Rising, find_row, next_row, is_next, put_row, put_in, holds, takes, with_rows, join_to, earlier, size_of, has_key}
 use Rattle.ledger.specs.declared.store.Size.{Size}
 use Rattle.ledger.specs.Ledgers.{find_put, next_put, length_put, put_put, put_taken, put_refused, takes_joined}
-use Rattle.holdback.specs.HoldBack.{Layer, has_key, Fits, with_held, whole, goes_down, after_put}
+use Rattle.ledger.specs.Props.{Kept-prop, own_of}
+use Rattle.ledger.specs.declared.row.Row as Row
+use Rattle.ledger.specs.declared.store.RowStore as RowStore
+use Rattle.holdback.specs.declared.layer.HoldBack.{HoldBack}
+use Rattle.holdback.specs.HoldBack.{Holding, LayerKept, Layer, Fits, with_held, whole, goes_down, after_put}
+
+Fits-prop : {K R : Type 0} (o : KeyOps K R) (held : Option R) (l : Ledger R) → IsProp (Fits o held l)
+Fits-prop o None l = Unit-prop
+Fits-prop o (Some h) l = Bool-set _ _
+
+Holding-prop : {S K R : Type 0} (row : Row.Ghosts R K) (store : RowStore.Ghosts S R K) (s : HoldBack S R K) → IsProp (Holding row store s)
+Holding-prop row store s u v = λ i. record {
+  below = Kept-prop row.keys (store.ledger s.below) (store.kept s.below) u.below v.below i;
+  fits = Fits-prop row.keys s.held (store.ledger s.below) u.fits v.fits i;
+}
+
+-- what a layer keeps of its own
+pub holding : {S K R : Type 0} (row : Row.Ghosts R K) (store : RowStore.Ghosts S R K) (s : HoldBack S R K) → LayerKept row store s → Holding row store s
+holding row store s k = own_of (Holding-prop row store s) k
 
 by_equal : {A : Type 0} (v : Ordering) (x y : A) → by_order v x y x ≡ cond (is_eq v) y x
 by_equal Less x y = refl

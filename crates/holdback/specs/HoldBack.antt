@@ -1,8 +1,7 @@
 -- A layer that holds a row back: the ledger of the store below, and the row held.
-use Rattle.std.specs.Prelude.{◌≡◌, Bool, true, false, cond, not, ◌&&◌, is_some, Some, None, Option}
-use Rattle.std.specs.Ordering.{is_eq}
+use Rattle.std.specs.Prelude.{◌≡◌, Bool, true, cond, not, ◌&&◌, is_some, Some, None, Option}
 use Rattle.ledger.specs.Keys.{KeyOps}
-use Rattle.ledger.specs.Ledger.{Ledger, Kept, put_row, takes, with_rows, join_to}
+use Rattle.ledger.specs.Ledger.{Ledger, Kept, has_key, put_row, takes, with_rows, join_to}
 use Rattle.ledger.specs.declared.row.Row as Row
 use Rattle.ledger.specs.declared.store.RowStore as RowStore
 use Rattle.holdback.specs.declared.layer.HoldBack.{HoldBack}
@@ -11,11 +10,6 @@ use Rattle.holdback.specs.declared.layer.HoldBack.{HoldBack}
 pub record Layer (R : Type 0) : Type 0 where
   pub below : Ledger R
   pub held : Option R
-
--- the row, if there is one, has this key
-abbrev pub has_key : {K R : Type 0} → KeyOps K R → K → Option R → Bool
-has_key o k None = false
-has_key o k (Some h) = is_eq (o.order (o.key_of h) k)
 
 -- the row, if there is one, is taken by this ledger
 abbrev pub Fits : {K R : Type 0} → KeyOps K R → Option R → Ledger R → Type 0

@@ -3,8 +3,7 @@ ghost use Rattle.std.specs.Prelude.{◌≡◌, false, None, OnErr};
 ghost use Rattle.ledger.specs.Ledger.{placed, put_in, takes};
 ghost use Rattle.holdback.specs.HoldBack.{ledger_of, layer_of, after_put, goes_down, Holding, StoreKept, LayerKept};
 
-use crate::choose::{earlier_of, has_key, join_to, may_follow};
-use ledger::row::Row;
+use ledger::row::{Row, earlier, has_key, is_next, join_to};
 use ledger::store::{Full, RowStore, Size};
 
 #[derive(Drop)]
@@ -62,7 +61,7 @@ impl<S: RowStore> RowStore for HoldBack<S> {
         let Some(held) = self.held else {
             return found;
         };
-        if has_key(&self.held, &key) {
+        if has_key(self.held, key) {
             Some(join_to(found, held))
         } else {
             found
@@ -74,8 +73,8 @@ impl<S: RowStore> RowStore for HoldBack<S> {
         let Some(held) = self.held else {
             return found;
         };
-        if may_follow::<S::Row>(after, &held.key()) {
-            earlier_of(held, found)
+        if is_next::<S::Row>(*after, held.key()) {
+            earlier(held, found)
         } else {
             found
         }
@@ -104,7 +103,7 @@ impl<S: RowStore> RowStore for HoldBack<S> {
         ensures layer { layer_of S.RowStore self.new ≡ after_put S.Row.Row.keys S.Row.Row.joined row (layer_of S.RowStore self.old) }
         ensures still { goes_down S.Row.Row.keys S.Row.Row.joined row (layer_of S.RowStore self.old) ≡ false → self.new.below ≡ self.old.below }
     {
-        if has_key(&self.held, &row.key()) {
+        if has_key(self.held, row.key()) {
             self.held = Some(join_to(self.held, row));
             return Ok(());
         }

@@ -1,9 +1,12 @@
 use Rattle.std.proofs.Common.{◌≡◌, true, false, Some, sym, refl, ap, ◌∙◌, subst}
-use Rattle.ledger.specs.Ledger.{Kept, placed, takes, size_of, find_row}
+use Rattle.ledger.specs.Ledger.{Kept, placed, takes, size_of, find_row, has_key}
 use Rattle.ledger.specs.Ledgers.{put_kept}
-use Rattle.holdback.specs.HoldBack.{Layer, has_key, after_put, whole, layer_of, ledger_of, Holding}
-use Rattle.holdback.proofs.LayerLaws.{joined_taken, joined_fits, put_joins, put_holds, none_held, whole_put, takes_by}
+use Rattle.holdback.specs.HoldBack.{Layer, after_put, whole, layer_of, ledger_of, Holding}
+use Rattle.holdback.proofs.LayerLaws.{holding, joined_taken, joined_fits, put_joins, put_holds, none_held, whole_put, takes_by}
 use Rattle.holdback.proofs.layer.HoldBackRowStore.put.Goals as goal
+
+pub pass_down-requires : goal.pass_down-requires
+pass_down-requires g c = subst (λ x. Holding g.S.Row.Row g.S.RowStore x) (sym (c.size-size.ensures.same ∙ c.find-known.ensures.same)) (holding g.S.Row.Row g.S.RowStore c.args.self.now c.requires)
 
 pub returns-then-has_key : goal.returns-then-has_key
 returns-then-has_key g c =
@@ -12,7 +15,7 @@ returns-then-has_key g c =
     let below = g.S.RowStore in
     let s = c.args.self.now in
     let r = c.args.row in
-    let own = c.requires.own_kept in
+    let own = holding q below s c.requires in
     let same_key : has_key q.keys (q.keys.key_of r) s.held ≡ true = ap (λ k. has_key q.keys k s.held) (sym c.key.ensures) ∙ sym c.has_key.ensures ∙ c.if-has_key.true in
     let layer : ◌≡◌ {A = Layer g.row.S-Row.Denot} (record { below = below.ledger s.below; held = Some c.join_to.result }) (after_put q.keys q.joined r (layer_of below s)) =
     ap (λ x. record { below = below.ledger s.below; held = Some x }) c.join_to.ensures ∙ sym (put_joins q.keys q.joined r (layer_of below s) same_key) in
@@ -52,7 +55,7 @@ returns g c =
     c.size-size.result (size.answer ∙ ap (λ x. size_of (ledger_of q below x)) known.same) c.else-is_none.either in
     let layer : ◌≡◌ {A = Layer g.row.S-Row.Denot} (record { below = below.ledger d.below; held = Some r }) (after_put q.keys q.joined r (layer_of below s)) =
     ap (λ x. record { below = x; held = Some r }) passed ∙ sym (put_holds q.keys q.joined r (layer_of below s) other taken) in
-    let after = ap (whole q.keys q.joined) layer ∙ whole_put q.keys q.joined r (layer_of below s) m.ordered m.joins c.requires.own_kept.below.rising in
+    let after = ap (whole q.keys q.joined) layer ∙ whole_put q.keys q.joined r (layer_of below s) m.ordered m.joins (holding q g.S.RowStore s c.requires).below.rising in
     record {
       answer = ap (placed r) (sym taken);
       after = after;
