@@ -1,43 +1,37 @@
 -- Rows in their order of arrival.
-use Rattle.std.proofs.Common.{◌≡◌, ℕ, zero, suc, ◌+◌, ◌<◌, ◌≤◌, Bool, true, false, cond, List, is_some, IfSome, Some, None, Option, Ordering, sym, refl, ap, ◌∙◌, ⊎_elim, arith}
-use Rattle.std.proofs.lemmas.Bool.{cases_lt, cond-true, cond-false}
-use Rattle.std.specs.Option.{option_or}
+use Rattle.std.proofs.Common.{◌≡◌, ℕ, zero, suc, ◌+◌, ◌<◌, Bool, true, false, cond, List, is_some, IfSome, Some, None, Option, Ordering, sym, refl, ap, ◌∙◌, arith}
+use Rattle.std.specs.List.{find, range_with_len}
+use Rattle.std.specs.Option.{option_or, option_map}
 use Rattle.std.specs.Ordering.{is_eq}
 use Rattle.ledger.specs.Keys.{KeyOps, OrderLaws, JoinLaws, by_order}
-use Rattle.ledger.specs.Ledger.{Rising, find_row, put_row, holds, join_to}
+use Rattle.ledger.specs.Ledger.{Rising, find_row, put_row, holds, join_to, has_key}
 use Rattle.ledger.specs.Ledgers.{by_order_lem, put_rising, find_put}
-use Rattle.images.specs.Arrivals.{first_at, put_one, arrived, has_key, place_of}
+use Rattle.images.specs.Arrivals.{first_at, put_one, arrived, place_of}
+
+pub option_same : {X : Type 0} (v : Option X) → option_map (λ x. x) v ≡ v
+option_same None = refl
+option_same (Some x) = refl
 
 -- a search for the first index that passes a test
 module _ (test : ℕ → Bool) where
-  pub first_on : (i : ℕ) → first_at test i ≡ None → false ≡ test i → first_at test (i + 1) ≡ None
-  first_on i e h =
-      let on : i + 1 ≡ suc i = omega arith in
-      ap (first_at test) on ∙ ap (λ v. option_or v (cond (test i) (Some i) None)) e ∙ cond-false (test i) (Some i) None (sym h)
-
-  here : (n i : ℕ) → i ≡ n → first_at test i ≡ None → true ≡ test i → Some i ≡ first_at test (suc n)
-  here n i q e h =
-      sym (ap (λ m. first_at test (suc m)) (sym q) ∙ ap (λ v. option_or v (cond (test i) (Some i) None)) e ∙ cond-true (test i) (Some i) None (sym h))
-
-  pub first_here : (n i : ℕ) → i < n → first_at test i ≡ None → true ≡ test i → Some i ≡ first_at test n
-  first_here zero i h e t = absurd (omega arith)
-  first_here (suc n) i h e t =
-      ⊎_elim
-      (λ l. ap (λ v. option_or v (cond (test n) (Some n) None)) (first_here n i l e t))
-      (λ l. here n i (omega arith) e t)
-      (cases_lt i n)
-
-  pub first_below : (i n : ℕ) → n ≤ i → first_at test i ≡ None → None ≡ first_at test n
-  first_below zero n h e = let z : n ≡ zero = omega arith in sym (ap (first_at test) z)
-  first_below (suc i) n h e =
-      ⊎_elim
-      (λ l. first_below i n (omega arith) (left (first_at test i) (cond (test i) (Some i) None) e))
-      (λ l. let z : n ≡ suc i = omega arith in sym (ap (first_at test) z ∙ e))
-      (cases_lt n (suc i))
+  -- one number more at the end of a range
+  find_more : (a n : ℕ) → find test (range_with_len a (suc n)) ≡ option_or (find test (range_with_len a n)) (cond (test (a + n)) (Some (a + n)) None)
+  find_more a zero = let z : a + 0 ≡ a = omega arith in rw z
+  find_more a (suc n) =
+      let on : a + 1 + n ≡ a + suc n = omega arith in
+      past (test a) (find test (range_with_len (a + 1) (suc n))) (find test (range_with_len (a + 1) n)) (cond (test (a + suc n)) (Some (a + suc n)) None)
+      (rw on at (find_more (a + 1) n))
     where
-      left : (v w : Option ℕ) → option_or v w ≡ None → v ≡ None
-      left None w q = refl
-      left (Some x) w q = q
+      past : (b : Bool) (v w x : Option ℕ) → v ≡ option_or w x → cond b (Some a) v ≡ option_or (cond b (Some a) w) x
+      past true v w x e = refl
+      past false v w x e = e
+
+  -- what `find` gives over the numbers below n
+  pub first_found : (n : ℕ) → find test (range_with_len 0 n) ≡ first_at test n
+  first_found zero = refl
+  first_found (suc n) =
+      let z : 0 + n ≡ n = omega arith in
+      (rw z at (find_more 0 n)) ∙ ap (λ v. option_or v (cond (test n) (Some n) None)) (first_found n)
 
   pub first_within : (n : ℕ) → IfSome (first_at test n) (λ i. i < n)
   first_within zero = tt

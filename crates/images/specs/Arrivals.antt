@@ -1,10 +1,9 @@
 -- Rows in their order of arrival: the ledger that they make, the first with a key, and the first at fault. `at` gives
 -- the row at an index, from 0, or none where the bytes there are malformed.
-use Rattle.std.specs.Prelude.{ℕ, zero, suc, Bool, true, false, cond, List, [], Some, None, Option}
+use Rattle.std.specs.Prelude.{ℕ, zero, suc, Bool, true, cond, List, [], Some, None, Option}
 use Rattle.std.specs.Option.{option_or}
-use Rattle.std.specs.Ordering.{is_eq}
 use Rattle.ledger.specs.Keys.{KeyOps}
-use Rattle.ledger.specs.Ledger.{put_row, holds}
+use Rattle.ledger.specs.Ledger.{has_key, put_row, holds}
 
 -- the first index below n that passes a test
 abbrev pub first_at : (ℕ → Bool) → ℕ → Option ℕ
@@ -19,11 +18,6 @@ put_one o join (Some r) rows = put_row o join r rows
 abbrev pub arrived : {K R : Type 0} → KeyOps K R → (R → R → R) → (ℕ → Option R) → ℕ → List R
 arrived o join at zero = []
 arrived o join at (suc n) = put_one o join (at n) (arrived o join at n)
-
--- the row has this key
-abbrev pub has_key : {K R : Type 0} → KeyOps K R → K → Option R → Bool
-has_key o k None = false
-has_key o k (Some r) = is_eq (o.order (o.key_of r) k)
 
 -- the index of the first of n rows with this key
 abbrev pub place_of : {K R : Type 0} → KeyOps K R → K → (ℕ → Option R) → ℕ → Option ℕ

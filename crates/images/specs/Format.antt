@@ -4,10 +4,11 @@ use Rattle.std.specs.Prelude.{ℕ, ◌+◌, ◌-◌, ◌*◌, ◌/◌, min, cond
 use Rattle.std.specs.List.{between}
 use Rattle.digits.specs.Positional.{numeral, write_decimal}
 use Rattle.values.specs.Checked.{and_then}
-use Rattle.ledger.specs.declared.row.Row as Row
+use Rattle.ledger.specs.declared.row.Row as RowBound
 use Rattle.images.specs.Arrivals.{first_fault}
 use Rattle.images.specs.Fields.{written}
 use Rattle.images.specs.declared.faults.ImageFault.{ImageFault}
+use Rattle.images.specs.declared.faults.ImageFault.TheVariants.{Count, Row}
 use Rattle.images.specs.declared.row.ImageRow as ImageRow
 
 -- the bytes of the row at index i, from 0
@@ -26,29 +27,26 @@ most_in w bs = min (whole_in w bs) 9999999
 abbrev pub count_in : ℕ → List ℕ → Option ℕ
 count_in w bs = and_then (numeral 7 (take 7 bs)) (λ n. cond (nat_le n (most_in w bs)) (Some n) None)
 
-abbrev pub refused_at : ℕ → ImageFault
-refused_at i = record { row = i }
-
 -- a refusal where a row is at fault; rows count from 1
 abbrev pub faulted : Option ℕ → Result (Unit {0}) ImageFault
 faulted None = Ok tt
-faulted (Some i) = Err (refused_at (i + 1))
+faulted (Some i) = Err (Row (i + 1))
 
 -- the row at index i
 abbrev pub row_at : {K R : Type 0} → ImageRow.Ghosts R K → List ℕ → ℕ → Option R
-row_at image bs i = image.row_in (slot_at image.width i bs)
+row_at image bs i = image.row_in (slot_at image.WIDTH i bs)
 
 -- the answer to a check: the first row at fault among those that the count states, and row 0 where the count is bad
-abbrev pub checked_rows : {K R : Type 0} → Row.Ghosts R K → ImageRow.Ghosts R K → List ℕ → Option ℕ → Result (Unit {0}) ImageFault
-checked_rows row image bs None = Err (refused_at 0)
+abbrev pub checked_rows : {K R : Type 0} → RowBound.Ghosts R K → ImageRow.Ghosts R K → List ℕ → Option ℕ → Result (Unit {0}) ImageFault
+checked_rows row image bs None = Err Count
 checked_rows row image bs (Some n) = faulted (first_fault row.keys row.joined (row_at image bs) n)
 
-abbrev pub checked : {K R : Type 0} → Row.Ghosts R K → ImageRow.Ghosts R K → List ℕ → Result (Unit {0}) ImageFault
-checked row image bs = checked_rows row image bs (count_in image.width bs)
+abbrev pub checked : {K R : Type 0} → RowBound.Ghosts R K → ImageRow.Ghosts R K → List ℕ → Result (Unit {0}) ImageFault
+checked row image bs = checked_rows row image bs (count_in image.WIDTH bs)
 
 -- an image made empty: only the count is written
 abbrev pub blanked : List ℕ → Result (Unit {0}) ImageFault
-blanked bs = cond (nat_lt (length bs) 7) (Err (refused_at 0)) (Ok tt)
+blanked bs = cond (nat_lt (length bs) 7) (Err Count) (Ok tt)
 
 abbrev pub blank_bytes : List ℕ → List ℕ
 blank_bytes bs = cond (nat_lt (length bs) 7) bs (written 0 (write_decimal 7 0) bs)

@@ -8,6 +8,7 @@ use crate::fields::{read_traffic, write_number, write_text, write_traffic};
 use crate::row::ImageRow;
 use ledger::day::{DayKey, DayRow};
 use values::calendar::{Day, TimeOfDay};
+use values::decimal::Decimal;
 use values::labels::Point;
 
 const DAY_WIDTH: usize = 55;
@@ -44,7 +45,7 @@ fn write_fields(row: DayRow, out: &mut [u8])
 impl ImageRow for DayRow {
     const WIDTH: usize = DAY_WIDTH;
 
-    ghost width = { day_width };
+    ghost WIDTH = { day_width };
 
     ghost row_in = { day_row_in };
 
@@ -55,10 +56,6 @@ impl ImageRow for DayRow {
     ghost sized = { day_sized };
 
     ghost read = { day_row_read };
-
-    fn row_width() -> usize {
-        Self::WIDTH
-    }
 
     fn read_row(bytes: &[u8]) -> Option<DayRow> {
         if bytes.len() == DAY_WIDTH {

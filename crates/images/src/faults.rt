@@ -2,10 +2,12 @@
 ghost use Rattle.std.specs.Prelude.{◌≡◌};
 ghost use Rattle.images.specs.Faults.{refusal};
 
-// The row at fault, counted from 1, or 0 where the bytes are too few or the count is bad.
 #[derive(Clone, Copy, PartialEq, Eq, Debug)]
-pub struct ImageFault {
-    pub row: usize,
+pub enum ImageFault {
+    // The bytes are too few, or the count is bad.
+    Count,
+    // The first row at fault, counted from 1.
+    Row(usize),
 }
 
 impl ImageFault {
@@ -15,9 +17,13 @@ impl ImageFault {
         26
     }
 
+    // The row at fault, 0 where it is the count.
     pub fn row(self) -> usize
         ensures { result ≡ (refusal self).row }
     {
-        self.row
+        match self {
+            ImageFault::Count => 0,
+            ImageFault::Row(row) => row,
+        }
     }
 }

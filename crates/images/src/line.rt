@@ -8,6 +8,7 @@ use crate::fields::{read_traffic, write_number, write_text, write_traffic};
 use crate::row::ImageRow;
 use ledger::line::{LineKey, LineRow};
 use values::calendar::Month;
+use values::decimal::Decimal;
 use values::labels::{Descriptor, Point};
 use values::rates::Tariff;
 
@@ -45,7 +46,7 @@ fn write_fields(row: LineRow, out: &mut [u8])
 impl ImageRow for LineRow {
     const WIDTH: usize = LINE_WIDTH;
 
-    ghost width = { line_width };
+    ghost WIDTH = { line_width };
 
     ghost row_in = { line_in };
 
@@ -56,10 +57,6 @@ impl ImageRow for LineRow {
     ghost sized = { line_sized };
 
     ghost read = { line_read };
-
-    fn row_width() -> usize {
-        Self::WIDTH
-    }
 
     fn read_row(bytes: &[u8]) -> Option<LineRow> {
         if bytes.len() == LINE_WIDTH {

@@ -4,11 +4,11 @@ use Rattle.std.proofs.lemmas.Bool.{cases_lt, or_left, or_right, or_from, ltb-tru
 use Rattle.digits.specs.Positional.{write_decimal}
 use Rattle.digits.proofs.Positional.{length_places}
 use Rattle.ledger.specs.Keys.{KeyOps, OrderLaws, JoinLaws}
-use Rattle.ledger.specs.Ledger.{holds, takes, placed, put_in, put_row, with_rows, join_to}
+use Rattle.ledger.specs.Ledger.{holds, takes, placed, put_in, put_row, with_rows, join_to, has_key}
 use Rattle.ledger.specs.Ledgers.{length_put, put_taken, put_refused}
 use Rattle.ledger.specs.declared.row.Row as Row
 use Rattle.ledger.specs.declared.store.Full.{Full}
-use Rattle.images.specs.Arrivals.{arrived, place_of, has_key, first_fault}
+use Rattle.images.specs.Arrivals.{arrived, place_of, first_fault}
 use Rattle.images.specs.Fields.{written}
 use Rattle.images.specs.Format.{whole_in, most_in, count_in, row_at, faulted, checked_rows, checked, blank_bytes}
 use Rattle.images.specs.declared.faults.ImageFault.{ImageFault}
@@ -23,12 +23,12 @@ pub err≢ok : {A E : Type 0} {v : Result A E} {e : E} {x : A} → Err e ≡ v �
 err≢ok p q = let z : ◌≡◌ {A = ℕ} 0 1 = cc in omega arith
 
 module _ {K R : Type 0} (row : Row.Ghosts R K) (image : ImageRow.Ghosts R K) (laws : OrderLaws row.keys) (joins : JoinLaws row.keys row.joined)
-    (sized : (cs : List ℕ) (r : R) → image.row_in cs ≡ Some r → length cs ≡ image.width) (read : (r : R) → image.row_in (image.bytes_of r) ≡ Some r) where
+    (sized : (cs : List ℕ) (r : R) → image.row_in cs ≡ Some r → length cs ≡ image.WIDTH) (read : (r : R) → image.row_in (image.bytes_of r) ≡ Some r) where
   abbrev o : KeyOps K R
   o = row.keys
 
   abbrev w : ℕ
-  w = image.width
+  w = image.WIDTH
 
   abbrev Counted : List ℕ → Type 0
   Counted bs = length (image_ledger row image bs).rows ≡ row_count w bs

@@ -5,9 +5,9 @@ use Rattle.std.specs.Option.{option_or}
 use Rattle.std.specs.Ordering.{is_eq}
 use Rattle.values.specs.Checked.{and_then}
 use Rattle.ledger.specs.Keys.{KeyOps, OrderLaws, JoinLaws, by_order}
-use Rattle.ledger.specs.Ledger.{Rising, find_row, next_row, put_row, holds, join_to}
+use Rattle.ledger.specs.Ledger.{Rising, find_row, next_row, put_row, holds, join_to, has_key}
 use Rattle.ledger.specs.Ledgers.{by_order_lem, none≢some, length_put, find_put, next_put, put_put, put_swap}
-use Rattle.images.specs.Arrivals.{first_at, put_one, arrived, has_key, place_of, is_fault, first_fault}
+use Rattle.images.specs.Arrivals.{first_at, put_one, arrived, place_of, is_fault, first_fault}
 use Rattle.images.proofs.Arrived.{arrived_rising, place_holds, first_within}
 use Rattle.imagestore.specs.Images.{next_with}
 

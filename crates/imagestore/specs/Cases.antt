@@ -2,8 +2,9 @@
 use Rattle.std.specs.Prelude.{◌≡◌, ℕ, List, ◌++◌, Some, Ok, Err, codes, Option, Result}
 use Rattle.values.specs.Checked.{and_then}
 use Rattle.images.specs.Fields.{line_in, day_row_in}
-use Rattle.images.specs.Format.{refused_at, checked}
+use Rattle.images.specs.Format.{checked}
 use Rattle.images.specs.declared.faults.ImageFault.{ImageFault}
+use Rattle.images.specs.declared.faults.ImageFault.TheVariants.{Count, Row}
 use Rattle.imagestore.specs.Images.{put_bytes, line_row, line_image, day_row, day_image}
 
 -- one call of 22 tenths in March 2024, and the two of them together
@@ -28,12 +29,12 @@ with_line row bs = and_then (line_in row) (λ r. Some (put_bytes line_row line_i
 unfoldable pub LinesAsWorked : Type 0
 LinesAsWorked =
     (line_check (codes "0000000") ≡ Ok tt)
-    × (line_check (codes "000000") ≡ Err (refused_at 0))
-    × (line_check (codes "00000 0") ≡ Err (refused_at 0))
-    × (line_check (codes "0000002" ++ one_call) ≡ Err (refused_at 0))
+    × (line_check (codes "000000") ≡ Err Count)
+    × (line_check (codes "00000 0") ≡ Err Count)
+    × (line_check (codes "0000002" ++ one_call) ≡ Err Count)
     × (line_check (codes "0000001" ++ (one_call ++ codes "??")) ≡ Ok tt)
-    × (line_check (codes "0000001" ++ no_month) ≡ Err (refused_at 1))
-    × (line_check (codes "0000002" ++ (one_call ++ two_calls)) ≡ Err (refused_at 2))
+    × (line_check (codes "0000001" ++ no_month) ≡ Err (Row 1))
+    × (line_check (codes "0000002" ++ (one_call ++ two_calls)) ≡ Err (Row 2))
     × (with_line one_call (codes "0000000" ++ (no_month ++ codes "??")) ≡ Some (codes "0000001" ++ (one_call ++ codes "??")))
     × (with_line one_call (codes "0000001" ++ (one_call ++ codes "??")) ≡ Some (codes "0000001" ++ (two_calls ++ codes "??")))
     × (with_line one_call (codes "0000000??") ≡ Some (codes "0000000??"))
@@ -57,6 +58,6 @@ with_day row bs = and_then (day_row_in row) (λ r. Some (put_bytes day_row day_i
 unfoldable pub DaysAsWorked : Type 0
 DaysAsWorked =
     (day_check (codes "0000001" ++ early) ≡ Ok tt)
-    × (day_check (codes "0000002" ++ (early ++ late)) ≡ Err (refused_at 2))
+    × (day_check (codes "0000002" ++ (early ++ late)) ≡ Err (Row 2))
     × (with_day late (codes "0000000" ++ (both ++ codes "??")) ≡ Some (codes "0000001" ++ (late ++ codes "??")))
     × (with_day early (codes "0000001" ++ late) ≡ Some (codes "0000001" ++ both))

@@ -23,8 +23,8 @@ row_count w bs = unwrap_or (count_in w bs) 0
 -- the ledger of an image: its rows put in their order of arrival, and the most
 abbrev pub image_ledger : {K R : Type 0} → Row.Ghosts R K → ImageRow.Ghosts R K → List ℕ → Ledger R
 image_ledger row image bs = record {
-  rows = arrived row.keys row.joined (row_at image bs) (row_count image.width bs);
-  most = most_in image.width bs;
+  rows = arrived row.keys row.joined (row_at image bs) (row_count image.WIDTH bs);
+  most = most_in image.WIDTH bs;
 }
 
 -- the bytes that a store stands over: those of an image, and none of what the check refuses
@@ -44,20 +44,20 @@ KeptImage row image bs = Kept row.keys (image_ledger row image bs) (Sound row im
 
 -- the row written in the place of the row at index i, joined to it
 abbrev pub joined_at : {K R : Type 0} → Row.Ghosts R K → ImageRow.Ghosts R K → List ℕ → ℕ → R → List ℕ
-joined_at row image bs i r = written (7 + image.width * i) (image.bytes_of (join_to row.joined (row_at image bs i) r)) bs
+joined_at row image bs i r = written (7 + image.WIDTH * i) (image.bytes_of (join_to row.joined (row_at image bs i) r)) bs
 
 -- the row written behind n rows, and then the count
 abbrev pub appended : {K R : Type 0} → ImageRow.Ghosts R K → List ℕ → ℕ → R → List ℕ
-appended image bs n r = written 0 (write_decimal 7 (n + 1)) (written (7 + image.width * n) (image.bytes_of r) bs)
+appended image bs n r = written 0 (write_decimal 7 (n + 1)) (written (7 + image.WIDTH * n) (image.bytes_of r) bs)
 
 abbrev pub put_at : {K R : Type 0} → Row.Ghosts R K → ImageRow.Ghosts R K → List ℕ → R → ℕ → Option ℕ → List ℕ
 put_at row image bs r n (Some i) = joined_at row image bs i r
-put_at row image bs r n None = cond (nat_lt n (most_in image.width bs)) (appended image bs n r) bs
+put_at row image bs r n None = cond (nat_lt n (most_in image.WIDTH bs)) (appended image bs n r) bs
 
 -- the bytes after a put: the row of a held key is rewritten, a new row is appended if there is room, and nothing else changes
 abbrev pub put_bytes : {K R : Type 0} → Row.Ghosts R K → ImageRow.Ghosts R K → R → List ℕ → List ℕ
 put_bytes row image r bs =
-    put_at row image bs r (row_count image.width bs) (place_of row.keys (row.keys.key_of r) (row_at image bs) (row_count image.width bs))
+    put_at row image bs r (row_count image.WIDTH bs) (place_of row.keys (row.keys.key_of r) (row_at image bs) (row_count image.WIDTH bs))
 
 -- the next row once one more row is looked at
 abbrev pub next_with : {K R : Type 0} → KeyOps K R → (R → R → R) → Option K → Option R → Option R → Option R
@@ -69,10 +69,10 @@ abbrev pub line_row : Row.Ghosts LineRow LineKey
 line_row = record { keys = line_keys; joined = join_lines }
 
 abbrev pub line_image : ImageRow.Ghosts LineRow LineKey
-line_image = record { width = line_width; row_in = line_in; bytes_of = line_bytes }
+line_image = record { WIDTH = line_width; row_in = line_in; bytes_of = line_bytes }
 
 abbrev pub day_row : Row.Ghosts DayRow DayKey
 day_row = record { keys = day_keys; joined = join_days }
 
 abbrev pub day_image : ImageRow.Ghosts DayRow DayKey
-day_image = record { width = day_width; row_in = day_row_in; bytes_of = day_bytes }
+day_image = record { WIDTH = day_width; row_in = day_row_in; bytes_of = day_bytes }

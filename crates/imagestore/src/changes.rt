@@ -17,9 +17,9 @@ const COUNT_WIDTH: usize = 7;
 
 // The row's bytes at an index, in rows of this width.
 fn fill_slot<R: ImageRow>(bytes: &mut [u8], width: usize, i: usize, row: R)
-    requires width { width ≡ R.ImageRow.width }
+    requires width { width ≡ R.ImageRow.WIDTH }
     requires room { 7 + width * i + width ≤ length bytes.old }
-    ensures { bytes.new ≡ written (7 + R.ImageRow.width * i) (R.ImageRow.bytes_of row) bytes.old }
+    ensures { bytes.new ≡ written (7 + R.ImageRow.WIDTH * i) (R.ImageRow.bytes_of row) bytes.old }
 {
     let start = COUNT_WIDTH + width * i;
     row.write_row(&mut bytes[start..start + width]);
@@ -27,10 +27,10 @@ fn fill_slot<R: ImageRow>(bytes: &mut [u8], width: usize, i: usize, row: R)
 
 // The row's bytes at an index.
 fn write_slot<R: ImageRow>(bytes: &mut [u8], i: usize, row: R)
-    requires { i < whole_in R.ImageRow.width bytes.old }
-    ensures { bytes.new ≡ written (7 + R.ImageRow.width * i) (R.ImageRow.bytes_of row) bytes.old }
+    requires { i < whole_in R.ImageRow.WIDTH bytes.old }
+    ensures { bytes.new ≡ written (7 + R.ImageRow.WIDTH * i) (R.ImageRow.bytes_of row) bytes.old }
 {
-    fill_slot(bytes, R::row_width(), i, row);
+    fill_slot(bytes, R::WIDTH, i, row);
 }
 
 // The row joined to the one held, if there is one.
@@ -45,7 +45,7 @@ fn join_to<R: ImageRow>(held: Option<R>, row: R) -> R
 
 // Joins the row to the one at an index.
 fn join_at<R: ImageRow>(bytes: &mut [u8], i: usize, row: R)
-    requires { i < whole_in R.ImageRow.width bytes.old }
+    requires { i < whole_in R.ImageRow.WIDTH bytes.old }
     ensures { bytes.new ≡ joined_at R.Row R.ImageRow.own bytes.old i row }
 {
     let joined = join_to(row_at::<R>(bytes, i), row);
@@ -54,7 +54,7 @@ fn join_at<R: ImageRow>(bytes: &mut [u8], i: usize, row: R)
 
 // One more row behind so many, and the count.
 fn append<R: ImageRow>(bytes: &mut [u8], count: usize, row: R)
-    requires { count < whole_in R.ImageRow.width bytes.old }
+    requires { count < whole_in R.ImageRow.WIDTH bytes.old }
     ensures { bytes.new ≡ appended R.ImageRow.own bytes.old count row }
 {
     write_slot(bytes, count, row);
@@ -63,8 +63,8 @@ fn append<R: ImageRow>(bytes: &mut [u8], count: usize, row: R)
 
 // Appends a row whose key is new, if there is room.
 fn put_new<R: ImageRow>(bytes: &mut [u8], count: usize, row: R) -> Result<(), Full<R>>
-    ensures answer { result ≡ placed row (nat_lt count (most_in R.ImageRow.width bytes.old)) }
-    ensures bytes { bytes.new ≡ (if ltb count (most_in R.ImageRow.width bytes.old) then appended R.ImageRow.own bytes.old count row else bytes.old) }
+    ensures answer { result ≡ placed row (nat_lt count (most_in R.ImageRow.WIDTH bytes.old)) }
+    ensures bytes { bytes.new ≡ (if ltb count (most_in R.ImageRow.WIDTH bytes.old) then appended R.ImageRow.own bytes.old count row else bytes.old) }
 {
     if count < most_rows::<R>(bytes) {
         append(bytes, count, row);

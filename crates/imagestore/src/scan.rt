@@ -13,8 +13,8 @@ use std::cmp::Ordering;
 
 // How many rows the count states, and none where it is bad.
 pub fn rows_in<R: ImageRow>(bytes: &[u8]) -> usize
-    ensures value { result ≡ row_count R.ImageRow.width bytes.now }
-    ensures within { result ≤ most_in R.ImageRow.width bytes.now }
+    ensures value { result ≡ row_count R.ImageRow.WIDTH bytes.now }
+    ensures within { result ≤ most_in R.ImageRow.WIDTH bytes.now }
 {
     count_rows::<R>(bytes).unwrap_or(0)
 }

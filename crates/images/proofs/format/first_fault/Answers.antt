@@ -1,25 +1,15 @@
+use Rattle.std.proofs.Common.{ℕ, Bool, sym, ◌∙◌, rules, refl, arith}
+use Rattle.std.proofs.lemmas.Iterator.{YieldsList-from_range}
+use Rattle.std.proofs.lemmas.Iterator.Search.{find_from_yields_List}
 use Rattle.images.specs.Arrivals.{is_fault, arrived}
 use Rattle.images.specs.Format.{row_at}
-use Rattle.images.proofs.Arrived.{first_on, first_here, first_below}
+use Rattle.images.proofs.Arrived.{option_same, first_found}
 use Rattle.images.proofs.format.first_fault.Goals as goal
 
-pub returns-then-is_fault : goal.returns-then-is_fault
-returns-then-is_fault g c = record {
-  value =
-      first_here (λ i. is_fault g.R.Row.keys (row_at g.R.ImageRow c.args.bytes.now i) (arrived g.R.Row.keys g.R.Row.joined (row_at g.R.ImageRow c.args.bytes.now) i)) c.args.count c.loop-i.i
-      c.loop-i-test.true c.loop-i.invariant c.if-is_fault.ensures;
-  within = c.loop-i-test.true;
-}
-
-pub loop-i-preserved : goal.loop-i-preserved
-loop-i-preserved g c =
-    first_on (λ i. is_fault g.R.Row.keys (row_at g.R.ImageRow c.args.bytes.now i) (arrived g.R.Row.keys g.R.Row.joined (row_at g.R.ImageRow c.args.bytes.now) i)) c.loop-i.i c.loop-i.invariant
-    c.if-is_fault.ensures
-
-pub returns : goal.returns
-returns g c = record {
-  value =
-      first_below (λ i. is_fault g.R.Row.keys (row_at g.R.ImageRow c.args.bytes.now i) (arrived g.R.Row.keys g.R.Row.joined (row_at g.R.ImageRow c.args.bytes.now) i)) c.loop-i.i c.args.count
-      c.loop-i-test.false c.loop-i.invariant;
-  within = tt;
-}
+pub returns-clause-value : goal.returns-clause-value
+returns-clause-value g c =
+    let test : ℕ → Bool = λ i. is_fault g.R.Row.keys (row_at g.R.ImageRow c.args.bytes.now i) (arrived g.R.Row.keys g.R.Row.joined (row_at g.R.ImageRow c.args.bytes.now) i) in
+    let below = YieldsList-from_range 0 c.args.count c.args.count refl (omega arith) in
+    sym (option_same c.find.result)
+    ∙ (find_from_yields_List test _ _ c.find.result c.find.ensures.ran below (λ i b f called. (search rules, search rules))
+    ∙ first_found test c.args.count)

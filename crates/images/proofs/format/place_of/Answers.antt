@@ -1,24 +1,15 @@
-use Rattle.std.proofs.Common.{ap, ◌∙◌}
-use Rattle.images.specs.Arrivals.{has_key}
+use Rattle.std.proofs.Common.{ℕ, Bool, sym, ◌∙◌, rules, refl, arith}
+use Rattle.std.proofs.lemmas.Iterator.{YieldsList-from_range}
+use Rattle.std.proofs.lemmas.Iterator.Search.{find_from_yields_List}
+use Rattle.ledger.specs.Ledger.{has_key}
 use Rattle.images.specs.Format.{row_at}
-use Rattle.images.proofs.Arrived.{first_on, first_here, first_below}
+use Rattle.images.proofs.Arrived.{option_same, first_found}
 use Rattle.images.proofs.format.place_of.Goals as goal
 
-pub returns-then-has_key : goal.returns-then-has_key
-returns-then-has_key g c = record {
-  value =
-      first_here (λ i. has_key g.R.Row.keys c.args.key (row_at g.R.ImageRow c.args.bytes.now i)) c.args.count c.loop-i.i c.loop-i-test.true c.loop-i.invariant
-      (c.if-has_key.ensures ∙ ap (has_key g.R.Row.keys c.args.key) c.row_at.ensures);
-  within = c.loop-i-test.true;
-}
-
-pub loop-i-preserved : goal.loop-i-preserved
-loop-i-preserved g c =
-    first_on (λ i. has_key g.R.Row.keys c.args.key (row_at g.R.ImageRow c.args.bytes.now i)) c.loop-i.i c.loop-i.invariant
-    (c.if-has_key.ensures ∙ ap (has_key g.R.Row.keys c.args.key) c.row_at.ensures)
-
-pub returns : goal.returns
-returns g c = record {
-  value = first_below (λ i. has_key g.R.Row.keys c.args.key (row_at g.R.ImageRow c.args.bytes.now i)) c.loop-i.i c.args.count c.loop-i-test.false c.loop-i.invariant;
-  within = tt;
-}
+pub returns-clause-value : goal.returns-clause-value
+returns-clause-value g c =
+    let test : ℕ → Bool = λ i. has_key g.R.Row.keys c.args.key (row_at g.R.ImageRow c.args.bytes.now i) in
+    let below = YieldsList-from_range 0 c.args.count c.args.count refl (omega arith) in
+    sym (option_same c.find.result)
+    ∙ (find_from_yields_List test _ _ c.find.result c.find.ensures.ran below (λ i b f called. (search rules, search rules))
+    ∙ first_found test c.args.count)

@@ -12,7 +12,7 @@ returns-in-Some g c =
     let image = g.R.ImageRow in
     let r = c.args.row in
     let bs = c.args.bytes.now in
-    let n = row_count image.width bs in
+    let n = row_count image.WIDTH bs in
     let at = row_at image bs in
     let place : place_of row.keys (row.keys.key_of r) at n ≡ Some c.in-Some.i =
     sym (c.in-Some.ensures.value ∙ ap (λ k. place_of row.keys k at c.rows_in-count.result) c.key.ensures ∙ ap (place_of row.keys (row.keys.key_of r) at) c.rows_in-count.ensures.value) in
@@ -31,9 +31,9 @@ returns-in-None g c =
     let image = g.R.ImageRow in
     let r = c.args.row in
     let bs = c.args.bytes.now in
-    let n = row_count image.width bs in
+    let n = row_count image.WIDTH bs in
     let at = row_at image bs in
-    let most = most_in image.width bs in
+    let most = most_in image.WIDTH bs in
     let new = cond (ltb n most) (appended image bs n r) bs in
     let place : place_of row.keys (row.keys.key_of r) at n ≡ None =
     sym (c.in-None.ensures.value ∙ ap (λ k. place_of row.keys k at c.rows_in-count.result) c.key.ensures ∙ ap (place_of row.keys (row.keys.key_of r) at) c.rows_in-count.ensures.value) in

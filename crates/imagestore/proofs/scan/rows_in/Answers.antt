@@ -5,7 +5,7 @@ use Rattle.imagestore.proofs.scan.rows_in.Goals as goal
 
 pub returns : goal.returns
 returns g c =
-    let w = g.R.ImageRow.width in
+    let w = g.R.ImageRow.WIDTH in
     let value = c.unwrap_or.ensures ∙ ap (λ v. unwrap_or v 0) c.count_rows.ensures in
     record {
       value = value;
