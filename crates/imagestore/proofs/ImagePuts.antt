@@ -1,11 +1,13 @@
 -- A put into an image is a put into its ledger.
 use Rattle.std.proofs.Common.{◌≡◌, ℕ, suc, ◌+◌, ◌*◌, ◌<◌, ◌≤◌, Bool, true, false, cond, ltb, List, [], length, is_some, IfErr, Some, None, Ok, Err, Option, Result, unwrap_or, sym, refl, ap, ◌∙◌, subst, ⊎_elim, arith}
 use Rattle.std.proofs.lemmas.Bool.{cases_lt, or_left, or_right, or_from, ltb-true, ltb-false, lt-ltb, le-ltb}
+use Rattle.std.specs.Coded.{Coded-set, coded_list, coded_ℕ}
 use Rattle.digits.specs.Positional.{write_decimal}
 use Rattle.digits.proofs.Positional.{length_places}
 use Rattle.ledger.specs.Keys.{KeyOps, OrderLaws, JoinLaws}
 use Rattle.ledger.specs.Ledger.{holds, takes, placed, put_in, put_row, with_rows, join_to, has_key}
 use Rattle.ledger.specs.Ledgers.{length_put, put_taken, put_refused}
+use Rattle.ledger.specs.Props.{own_of}
 use Rattle.ledger.specs.declared.row.Row as Row
 use Rattle.ledger.specs.declared.store.Full.{Full}
 use Rattle.images.specs.Arrivals.{arrived, place_of, first_fault}
@@ -21,6 +23,10 @@ use Rattle.imagestore.proofs.RowsCounted.{sound_counted, counted_sound, Held, ha
 
 pub err≢ok : {A E : Type 0} {v : Result A E} {e : E} {x : A} → Err e ≡ v → v ≡ Ok x → ⊥
 err≢ok p q = let z : ◌≡◌ {A = ℕ} 0 1 = cc in omega arith
+
+-- what an image keeps of its own
+pub sound : {K R : Type 0} (row : Row.Ghosts R K) (image : ImageRow.Ghosts R K) {bs : List ℕ} → KeptImage row image bs → Sound row image bs
+sound row image k = own_of (Coded-set (coded_list coded_ℕ) _ _) k
 
 module _ {K R : Type 0} (row : Row.Ghosts R K) (image : ImageRow.Ghosts R K) (laws : OrderLaws row.keys) (joins : JoinLaws row.keys row.joined)
     (sized : (cs : List ℕ) (r : R) → image.row_in cs ≡ Some r → length cs ≡ image.WIDTH) (read : (r : R) → image.row_in (image.bytes_of r) ≡ Some r) where
@@ -63,7 +69,7 @@ module _ {K R : Type 0} (row : Row.Ghosts R K) (image : ImageRow.Ghosts R K) (la
   kept_sound bs s = record {
     rising = arrived_rising o laws row.joined joins (row_at image bs) (row_count w bs);
     within = let u = count_under w bs in let c = counted bs s in omega arith;
-    own_kept = s;
+    own_kept = ∣ s ∣₁;
   }
 
   pub bytes_long : (r : R) → length (image.bytes_of r) ≡ w
@@ -91,7 +97,7 @@ module _ {K R : Type 0} (row : Row.Ghosts R K) (image : ImageRow.Ghosts R K) (la
   pub blank_left : (bs new : List ℕ) → KeptImage row image bs → new ≡ blank_bytes bs → Blank bs new
   blank_left bs new k e =
       ⊎_elim
-      (λ h. subst (Blank bs) (sym (e ∙ blank_short bs h)) (blank_by bs bs (short_count w bs h) refl k.own_kept))
+      (λ h. subst (Blank bs) (sym (e ∙ blank_short bs h)) (blank_by bs bs (short_count w bs h) refl (sound row image k)))
       (λ h.
       let zeros = write_decimal 7 0 in
       let seven = length_places 10 48 7 0 in
@@ -133,7 +139,7 @@ module _ {K R : Type 0} (row : Row.Ghosts R K) (image : ImageRow.Ghosts R K) (la
     held_by v e = sym (place_holds o laws row.joined joins (o.key_of r) (row_at image bs) n) ∙ ap is_some e
 
     long : (b : Bool) → holds o (o.key_of r) rows ≡ b → length (put_row o row.joined r rows) ≡ cond b n (suc n)
-    long b e = length_put o laws row.joined joins r rows k.rising ∙ ap (λ x. cond x (length rows) (suc (length rows))) e ∙ ap (λ x. cond b x (suc x)) (counted bs k.own_kept)
+    long b e = length_put o laws row.joined joins r rows k.rising ∙ ap (λ x. cond x (length rows) (suc (length rows))) e ∙ ap (λ x. cond b x (suc x)) (counted bs (sound row image k))
 
     module _ (i : ℕ) (e : place_of o (o.key_of r) (row_at image bs) n ≡ Some i) where
       under : i < n
@@ -178,7 +184,7 @@ module _ {K R : Type 0} (row : Row.Ghosts R K) (image : ImageRow.Ghosts R K) (la
           let number : row_count w new ≡ n + 1 = ap (λ v. unwrap_or v 0) count in
           let at_n : row_at image new n ≡ Some r = ap image.row_in (slot_counted w n c one seven ∙ slot_written w n b bs l f) ∙ read r in
           left_taken r bs new
-          (or_right (holds o (o.key_of r) rows) (ltb (length rows) (most_in w bs)) (ap (λ x. ltb x (most_in w bs)) (counted bs k.own_kept) ∙ below h))
+          (or_right (holds o (o.key_of r) rows) (ltb (length rows) (most_in w bs)) (ap (λ x. ltb x (most_in w bs)) (counted bs (sound row image k)) ∙ below h))
           (second ∙ first)
           (ap (arrived o row.joined (row_at image new)) number
           ∙ arrived_more o laws row.joined joins (row_at image bs) (row_at image new) r n (λ j u. ap image.row_in (slot_counted w j c one seven ∙ slot_kept w n b bs l f j (λ z. omega arith))) at_n)
@@ -190,7 +196,7 @@ module _ {K R : Type 0} (row : Row.Ghosts R K) (image : ImageRow.Ghosts R K) (la
       left_full : most_in w bs ≤ n → Left r bs bs (Err (record { row = r }))
       left_full h =
           let full : takes o r (image_ledger row image bs) ≡ false =
-          or_from (holds o (o.key_of r) rows) (ltb (length rows) (most_in w bs)) (held_by None e) (le-ltb (length rows) (most_in w bs) (let c = counted bs k.own_kept in omega arith)) in
+          or_from (holds o (o.key_of r) rows) (ltb (length rows) (most_in w bs)) (held_by None e) (le-ltb (length rows) (most_in w bs) (let c = counted bs (sound row image k) in omega arith)) in
           record {
             answer = sym (ap (placed r) full);
             after = sym (put_refused o row.joined r (image_ledger row image bs) full);

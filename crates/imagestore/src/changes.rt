@@ -1,6 +1,6 @@
 // Changing an image, for every row type: the count and the one row written change, and nothing else.
 ghost use Rattle.std.specs.Prelude.{◌≡◌, ◌+◌, ◌*◌, ◌<◌, ◌≤◌, ltb, [], length, if◌then◌else◌, OnErr, nat_lt};
-ghost use Rattle.ledger.specs.Ledger.{join_to, placed, takes, put_in, with_rows};
+ghost use Rattle.ledger.specs.Ledger.{placed, takes, put_in, with_rows};
 ghost use Rattle.images.specs.Fields.{written};
 ghost use Rattle.images.specs.Format.{whole_in, most_in, blank_bytes};
 ghost use Rattle.imagestore.specs.Images.{image_ledger, KeptImage, joined_at, appended, put_bytes};
@@ -9,7 +9,7 @@ use crate::scan::rows_in;
 use digits::write_decimal;
 use images::format::{blank, most_rows, place_of, row_at};
 use images::row::ImageRow;
-use ledger::row::Row;
+use ledger::row::{Row, join_to};
 use ledger::store::Full;
 
 // The digits of the count.
@@ -31,16 +31,6 @@ fn write_slot<R: ImageRow>(bytes: &mut [u8], i: usize, row: R)
     ensures { bytes.new ≡ written (7 + R.ImageRow.WIDTH * i) (R.ImageRow.bytes_of row) bytes.old }
 {
     fill_slot(bytes, R::WIDTH, i, row);
-}
-
-// The row joined to the one held, if there is one.
-fn join_to<R: ImageRow>(held: Option<R>, row: R) -> R
-    ensures { result ≡ join_to R.Row.joined held row }
-{
-    match held {
-        Some(held) => held.join(row),
-        None => row,
-    }
 }
 
 // Joins the row to the one at an index.

@@ -2,6 +2,5 @@
 #![tactic(auto)]
 
 mod changes;
-pub mod day;
-pub mod line;
+pub mod image;
 mod scan;

@@ -1,15 +1,14 @@
 // Looking through the rows of an image, for every row type.
 ghost use Rattle.std.specs.Prelude.{◌≡◌, ◌≤◌};
-ghost use Rattle.ledger.specs.Ledger.{find_row, is_next, next_row, earlier, size_of};
+ghost use Rattle.ledger.specs.Ledger.{find_row, next_row, size_of};
 ghost use Rattle.images.specs.Arrivals.{arrived};
 ghost use Rattle.images.specs.Format.{most_in, row_at};
 ghost use Rattle.imagestore.specs.Images.{row_count, image_ledger, KeptImage, next_with};
 
 use images::format::{count_rows, most_rows, place_of, row_at};
 use images::row::ImageRow;
-use ledger::row::Row;
+use ledger::row::{Row, earlier, is_next};
 use ledger::store::Size;
-use std::cmp::Ordering;
 
 // How many rows the count states, and none where it is bad.
 pub fn rows_in<R: ImageRow>(bytes: &[u8]) -> usize
@@ -44,30 +43,6 @@ pub fn find_row<R: ImageRow>(bytes: &mut [u8], key: R::Key) -> Option<R>
     }
 }
 
-// Whether a row of this key may come next.
-fn is_next<R: ImageRow>(after: &Option<R::Key>, key: R::Key) -> bool
-    ensures { result ≡ is_next R.Row.keys after.now key }
-{
-    match after {
-        Some(from) => R::compare(from, &key).is_lt(),
-        None => true,
-    }
-}
-
-// Which of the two comes first.
-fn earlier_row<R: ImageRow>(best: Option<R>, row: R) -> Option<R>
-    ensures { result ≡ earlier R.Row.keys R.Row.joined row best }
-{
-    let Some(held) = best else {
-        return Some(row);
-    };
-    match R::compare(&held.key(), &row.key()) {
-        Ordering::Less => Some(held),
-        Ordering::Equal => Some(held.join(row)),
-        Ordering::Greater => Some(row),
-    }
-}
-
 // The next row once one more row is looked at.
 fn next_with<R: ImageRow>(after: &Option<R::Key>, best: Option<R>, row: Option<R>) -> Option<R>
     ensures { result ≡ next_with R.Row.keys R.Row.joined after.now best row }
@@ -75,8 +50,8 @@ fn next_with<R: ImageRow>(after: &Option<R::Key>, best: Option<R>, row: Option<R
     let Some(row) = row else {
         return best;
     };
-    if is_next::<R>(after, row.key()) {
-        earlier_row(best, row)
+    if is_next::<R>(*after, row.key()) {
+        earlier(row, best)
     } else {
         best
     }

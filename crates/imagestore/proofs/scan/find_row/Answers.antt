@@ -1,7 +1,7 @@
 use Rattle.std.proofs.Common.{Some, None, refl, ◌∙◌}
 use Rattle.images.specs.Format.{row_at}
 use Rattle.imagestore.specs.Images.{row_count}
-use Rattle.imagestore.proofs.ImagePuts.{counted}
+use Rattle.imagestore.proofs.ImagePuts.{sound, counted}
 use Rattle.imagestore.proofs.RowsCounted.{found_at}
 use Rattle.imagestore.proofs.scan.find_row.Goals as goal
 
@@ -10,7 +10,7 @@ returns-in-Some g c = record {
   answer =
       c.row_at.ensures
       ∙ found_at g.R.Row.keys g.met.R.Row.ordered g.R.Row.joined g.met.R.Row.joins (row_at g.R.ImageRow c.args.bytes.now) c.args.key c.rows_in-count.result
-      (row_count g.R.ImageRow.WIDTH c.args.bytes.now) (counted g.R.Row g.R.ImageRow g.met.R.Row.ordered g.met.R.Row.joins g.met.R.ImageRow.sized g.met.R.ImageRow.read c.args.bytes.now c.requires.own_kept) c.rows_in-count.ensures.value (Some c.in-Some.at) c.in-Some.ensures.value;
+      (row_count g.R.ImageRow.WIDTH c.args.bytes.now) (counted g.R.Row g.R.ImageRow g.met.R.Row.ordered g.met.R.Row.joins g.met.R.ImageRow.sized g.met.R.ImageRow.read c.args.bytes.now (sound g.R.Row g.R.ImageRow c.requires)) c.rows_in-count.ensures.value (Some c.in-Some.at) c.in-Some.ensures.value;
   same = refl;
 }
 
@@ -18,6 +18,6 @@ pub returns-in-None : goal.returns-in-None
 returns-in-None g c = record {
   answer =
       found_at g.R.Row.keys g.met.R.Row.ordered g.R.Row.joined g.met.R.Row.joins (row_at g.R.ImageRow c.args.bytes.now) c.args.key c.rows_in-count.result
-      (row_count g.R.ImageRow.WIDTH c.args.bytes.now) (counted g.R.Row g.R.ImageRow g.met.R.Row.ordered g.met.R.Row.joins g.met.R.ImageRow.sized g.met.R.ImageRow.read c.args.bytes.now c.requires.own_kept) c.rows_in-count.ensures.value None c.in-None.ensures.value;
+      (row_count g.R.ImageRow.WIDTH c.args.bytes.now) (counted g.R.Row g.R.ImageRow g.met.R.Row.ordered g.met.R.Row.joins g.met.R.ImageRow.sized g.met.R.ImageRow.read c.args.bytes.now (sound g.R.Row g.R.ImageRow c.requires)) c.rows_in-count.ensures.value None c.in-None.ensures.value;
   same = refl;
 }
