@@ -4,3 +4,4 @@ pub mod Faults
 pub mod Postings
 pub mod Statement
 pub mod Joining
+pub mod Law

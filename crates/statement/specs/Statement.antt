@@ -1,8 +1,8 @@
 -- A statement by its model, and what opening and taking make of it.
-use Rattle.std.specs.Prelude.{ℕ, ◌+◌, ◌≤◌, Bool, true, false, cond, ◌&&◌, List, [], Ok, Err, Result, nat_le}
+use Rattle.std.specs.Prelude.{ℕ, ◌+◌, Bool, true, false, cond, ◌&&◌, List, [], Ok, Err, Result, nat_le}
 use Rattle.cdr.specs.Faults.{charge}
 use Rattle.cdr.specs.Reader.{read_record}
-use Rattle.ledger.specs.Ledger.{Ledger, Kept as StoreKept, takes, put_in}
+use Rattle.ledger.specs.Ledger.{Ledger, takes, put_in}
 use Rattle.ledger.specs.Rows.{line_keys, join_lines, day_keys, join_days}
 use Rattle.ledger.specs.declared.day.DayKey.{DayKey}
 use Rattle.ledger.specs.declared.day.DayRow.{DayRow}
@@ -20,7 +20,7 @@ use Rattle.statement.specs.declared.faults.TakeFault.TheVariants.{Spent, Record,
 use Rattle.statement.specs.declared.posting.Booked.{Booked}
 use Rattle.statement.specs.declared.posting.Posting.{Posting}
 use Rattle.statement.specs.declared.statement.Statement.{Statement}
-use Rattle.statement.specs.Board.{clear_board, noted, tally_at}
+use Rattle.statement.specs.Board.{clear_board, noted}
 use Rattle.statement.specs.Faults.{take_number, take_sequential}
 use Rattle.statement.specs.Postings.{posting_of, line_for, day_for, booked_of}
 
@@ -43,13 +43,6 @@ module _ {L D : Type 0} (line_store : RowStore.Ghosts L LineRow LineKey) (day_st
     taken = s.taken;
     board = s.board;
   }
-
-  -- The law of a statement: what opening it gives, and each call asks and gives back.
-  pub record Kept (s : Statement L D) : Type 0 where
-    pub lines : StoreKept line_keys (line_store.ledger s.lines) (line_store.kept s.lines)
-    pub days : StoreKept day_keys (day_store.ledger s.days) (day_store.kept s.days)
-    pub taken : s.taken ≤ 2000000
-    pub counts : (i : ℕ) → (tally_at s.board i).count ≤ s.taken
 
 -- a new statement over empty stores that hold at most so many lines and days
 abbrev pub opened : Terms → Month → ℕ → ℕ → Model

@@ -1,8 +1,8 @@
 // One statement joined to another: what the giver has goes to the receiver.
 ghost use Rattle.std.specs.Prelude.{◌≡◌, ◌+◌, ◌≤◌, List, length, OnErr};
 ghost use Rattle.statement.specs.Account.{Entry, Reaches, receiver_noted, giver_noted};
-ghost use Rattle.statement.specs.Joining.{same_terms, lines_together, days_together, join_answer, united, emptied, receiver_after, giver_after};
-ghost use Rattle.statement.specs.Statement.{model, Kept};
+ghost use Rattle.statement.specs.Joining.{lines_together, days_together, join_answer, united, emptied, receiver_after, giver_after};
+ghost use Rattle.statement.specs.Statement.{model};
 
 use super::{MOST_TAKEN, Statement};
 use crate::board::RefusalBoard;
@@ -11,18 +11,6 @@ use ledger::day::DayRow;
 use ledger::line::LineRow;
 use ledger::store::RowStore;
 use merging::{pour, rows_together};
-use values::terms::Terms;
-
-// Whether the parties, the months back and the rates are the same.
-fn same_terms(a: Terms, b: Terms) -> bool
-    ensures { result ≡ same_terms a b }
-{
-    a.creditor().code() == b.creditor().code()
-        && a.debtor().code() == b.debtor().code()
-        && a.months_back() == b.months_back()
-        && a.rates().pis() == b.rates().pis()
-        && a.rates().icms() == b.rates().icms()
-}
 
 impl<L: RowStore<Row = LineRow>, D: RowStore<Row = DayRow>> Statement<L, D> {
     // Whether the giver may be joined; nothing changes.
@@ -30,15 +18,11 @@ impl<L: RowStore<Row = LineRow>, D: RowStore<Row = DayRow>> Statement<L, D> {
         &mut self,
         giver: &mut Statement<M, E>,
     ) -> Result<(), JoinFault>
-        requires receiver { Kept L.RowStore D.RowStore self.old }
-        requires giver { Kept M.RowStore E.RowStore giver.old }
         ensures answer { result ≡ join_answer (model L.RowStore D.RowStore self.old) (model M.RowStore E.RowStore giver.old) }
         ensures receiver { self.new ≡ self.old }
         ensures giver { giver.new ≡ giver.old }
     {
-        if !(same_terms(self.terms, giver.terms)
-            && self.reference.number() == giver.reference.number())
-        {
+        if self.terms != giver.terms || self.reference != giver.reference {
             return Err(JoinFault::Unlike);
         }
         if self.taken + giver.taken > MOST_TAKEN {
@@ -58,15 +42,11 @@ impl<L: RowStore<Row = LineRow>, D: RowStore<Row = DayRow>> Statement<L, D> {
         &mut self,
         giver: &mut Statement<M, E>,
     )
-        requires receiver { Kept L.RowStore D.RowStore self.old }
-        requires giver { Kept M.RowStore E.RowStore giver.old }
         requires taken { self.old.taken + giver.old.taken ≤ 2000000 }
         requires lines { length (lines_together (model L.RowStore D.RowStore self.old) (model M.RowStore E.RowStore giver.old)) ≤ (model L.RowStore D.RowStore self.old).lines.most }
         requires days { length (days_together (model L.RowStore D.RowStore self.old) (model M.RowStore E.RowStore giver.old)) ≤ (model L.RowStore D.RowStore self.old).days.most }
         ensures receiver { model L.RowStore D.RowStore self.new ≡ united (model L.RowStore D.RowStore self.old) (model M.RowStore E.RowStore giver.old) }
         ensures giver { model M.RowStore E.RowStore giver.new ≡ emptied (model M.RowStore E.RowStore giver.old) }
-        ensures kept { Kept L.RowStore D.RowStore self.new }
-        ensures kept_giver { Kept M.RowStore E.RowStore giver.new }
     {
         pour(&mut self.lines, &mut giver.lines);
         pour(&mut self.days, &mut giver.days);
@@ -82,16 +62,12 @@ impl<L: RowStore<Row = LineRow>, D: RowStore<Row = DayRow>> Statement<L, D> {
         &mut self,
         giver: &mut Statement<M, E>,
     ) -> Result<(), JoinFault>
-        requires receiver { Kept L.RowStore D.RowStore self.old }
-        requires giver { Kept M.RowStore E.RowStore giver.old }
         ensures answer { result ≡ join_answer (model L.RowStore D.RowStore self.old) (model M.RowStore E.RowStore giver.old) }
         ensures receiver { model L.RowStore D.RowStore self.new ≡ receiver_after (model L.RowStore D.RowStore self.old) (model M.RowStore E.RowStore giver.old) result }
         ensures giver { model M.RowStore E.RowStore giver.new ≡ giver_after (model M.RowStore E.RowStore giver.old) result }
         ensures same { OnErr result (self.new ≡ self.old) }
         ensures same_giver { OnErr result (giver.new ≡ giver.old) }
         ensures reached { (a c : List Entry) → Reaches (model L.RowStore D.RowStore self.old) a → Reaches (model M.RowStore E.RowStore giver.old) c → Reaches (model L.RowStore D.RowStore self.new) (receiver_noted a c result) × Reaches (model M.RowStore E.RowStore giver.new) (giver_noted c result) }
-        ensures kept { Kept L.RowStore D.RowStore self.new }
-        ensures kept_giver { Kept M.RowStore E.RowStore giver.new }
     {
         self.joinable(giver)?;
         self.unite(giver);

@@ -2,7 +2,7 @@
 ghost use Rattle.std.specs.Prelude.{◌≡◌, length};
 ghost use Rattle.ledger.specs.Ledger.{next_row};
 ghost use Rattle.ledger.specs.Rows.{line_keys, day_keys};
-ghost use Rattle.statement.specs.Statement.{model, Kept};
+ghost use Rattle.statement.specs.Statement.{model};
 
 use super::Statement;
 use crate::board::RefusalBoard;
@@ -40,7 +40,6 @@ impl<L: RowStore<Row = LineRow>, D: RowStore<Row = DayRow>> Statement<L, D> {
 
     // How many lines there are.
     pub fn line_count(&mut self) -> usize
-        requires { Kept L.RowStore D.RowStore self.old }
         ensures answer { result ≡ length (model L.RowStore D.RowStore self.old).lines.rows }
         ensures same { self.new ≡ self.old }
     {
@@ -49,7 +48,6 @@ impl<L: RowStore<Row = LineRow>, D: RowStore<Row = DayRow>> Statement<L, D> {
 
     // The first line, or the first above a key.
     pub fn next_line(&mut self, after: &Option<LineKey>) -> Option<LineRow>
-        requires { Kept L.RowStore D.RowStore self.old }
         ensures answer { result ≡ next_row line_keys after.now (model L.RowStore D.RowStore self.old).lines.rows }
         ensures same { self.new ≡ self.old }
     {
@@ -58,7 +56,6 @@ impl<L: RowStore<Row = LineRow>, D: RowStore<Row = DayRow>> Statement<L, D> {
 
     // The first day, or the first above a key.
     pub fn next_day(&mut self, after: &Option<DayKey>) -> Option<DayRow>
-        requires { Kept L.RowStore D.RowStore self.old }
         ensures answer { result ≡ next_row day_keys after.now (model L.RowStore D.RowStore self.old).days.rows }
         ensures same { self.new ≡ self.old }
     {
