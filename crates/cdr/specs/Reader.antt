@@ -7,6 +7,7 @@ use Rattle.cdr.specs.declared.call.CallRecord.{CallRecord}
 use Rattle.cdr.specs.declared.faults.Charged.{Charged}
 use Rattle.cdr.specs.declared.faults.RecordFault.{RecordFault}
 use Rattle.cdr.specs.declared.faults.RecordFault.TheVariants.{Length, Category, Selection, Sliced, Cause}
+use Rattle.cdr.specs.declared.fields.Field.{Field}
 use Rattle.cdr.specs.Faults.{charge, charged_to, malformed_at}
 
 -- the bytes of columns a to e
@@ -21,21 +22,21 @@ column a bs = slice_index bs (a - 1)
 abbrev pub sequential_in : List ℕ → Option ℕ
 sequential_in cs = and_then (numeral 10 cs) (λ n. cond (nat_lt 0 n) (Some n) None)
 
--- a sound field goes on to the next; any other is malformed, by its number, first column and the record's sequential
-abbrev pub field : {A B : Type 0} → ℕ → ℕ → ℕ → Option A → (A → Result B (Charged RecordFault)) → Result B (Charged RecordFault)
-field n c s None next = Err (malformed_at n c s)
-field n c s (Some v) next = next v
+-- a sound field goes on to the next; any other is malformed, charged to the record's sequential
+abbrev pub field : {A B : Type 0} → Field → ℕ → Option A → (A → Result B (Charged RecordFault)) → Result B (Charged RecordFault)
+field f s None next = Err (malformed_at f s)
+field f s (Some v) next = next v
 
 -- the fields of a record of 129 bytes, in the order in which they are judged
 abbrev pub read_fields : List ℕ → Result CallRecord (Charged RecordFault)
 read_fields bs =
-    field 1 1 0 (sequential_in (columns 1 10 bs)) (λ s.
-    field 3 32 s (day_in (columns 32 39 bs)) (λ day.
-    field 4 40 s (time_in (columns 40 45 bs)) (λ time.
-    field 6 66 s (duration_in (columns 66 72 bs)) (λ duration.
-    field 7 73 s (point_in (columns 73 82 bs)) (λ point.
-    field 8 83 s (descriptor_in (columns 83 87 bs)) (λ descriptor.
-    field 10 101 s (numeral 2 (columns 101 102 bs)) (λ category.
+    field Field.Sequential 0 (sequential_in (columns 1 10 bs)) (λ s.
+    field Field.Date s (day_in (columns 32 39 bs)) (λ day.
+    field Field.Time s (time_in (columns 40 45 bs)) (λ time.
+    field Field.Duration s (duration_in (columns 66 72 bs)) (λ duration.
+    field Field.Point s (point_in (columns 73 82 bs)) (λ point.
+    field Field.Descriptor s (descriptor_in (columns 83 87 bs)) (λ descriptor.
+    field Field.Category s (numeral 2 (columns 101 102 bs)) (λ category.
     Ok (record { sequential = s; day = day; time = time; duration = duration; point = point; descriptor = descriptor }))))))))
 
 -- category 03, in columns 101 and 102: a test call

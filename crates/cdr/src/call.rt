@@ -3,7 +3,7 @@ use values::calendar::{Day, Duration, TimeOfDay};
 use values::labels::{Descriptor, Point};
 
 // A call that was answered and ended.
-#[derive(Clone, Copy)]
+#[derive(Clone, Copy, PartialEq, Eq)]
 pub struct CallRecord {
     pub sequential: u64,
     pub day: Day,

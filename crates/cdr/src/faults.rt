@@ -2,40 +2,41 @@
 ghost use Rattle.std.specs.Prelude.{◌≡◌};
 ghost use Rattle.cdr.specs.Faults.{record_number, record_place, malformed_at, charge};
 
-// Where a refusal lies: nowhere in the record, in its length, or in a field, with its first column where the field
-// itself is malformed.
+use crate::fields::Field;
+
+// Where in the record a refusal lies: in its length, in a field, or at the first column of a field that is malformed.
 #[derive(Clone, Copy, PartialEq, Eq, Debug)]
 pub enum Place {
-    Nowhere,
     Length(usize),
-    Field(u8),
-    Column { field: u8, column: u8 },
+    Field(Field),
+    Column(Field),
 }
 
 // The reader's faults.
 #[derive(Clone, Copy, PartialEq, Eq, Debug)]
 pub enum RecordFault {
     Length(usize),
-    Malformed { field: u8, column: u8 },
+    Malformed(Field),
     Category,
     Selection,
     Sliced,
     Cause,
 }
 
-// A fault and the sequential of the record that met it, 0 where the record has none.
+// A fault and the sequential of the record that met it. It is 0 where the record has none: the number that is printed
+// and that a tally's least sequential takes for none, by rule.
 #[derive(Clone, Copy, PartialEq, Eq, Debug)]
 pub struct Charged<F> {
     pub fault: F,
     pub sequential: u64,
 }
 
-// A malformed field by its number and first column.
-pub fn malformed(field: u8, column: u8, sequential: u64) -> Charged<RecordFault>
-    ensures { result ≡ malformed_at field column sequential }
+// A malformed field of the record of this sequential.
+pub fn malformed(field: Field, sequential: u64) -> Charged<RecordFault>
+    ensures { result ≡ malformed_at field sequential }
 {
     Charged {
-        fault: RecordFault::Malformed { field, column },
+        fault: RecordFault::Malformed(field),
         sequential,
     }
 }
@@ -44,10 +45,7 @@ pub fn malformed(field: u8, column: u8, sequential: u64) -> Charged<RecordFault>
 pub fn charge_to<T, F>(res: Result<T, F>, sequential: u64) -> Result<T, Charged<F>>
     ensures { result ≡ charge sequential res }
 {
-    match res {
-        Ok(value) => Ok(value),
-        Err(fault) => Err(Charged { fault, sequential }),
-    }
+    res.map_err(|fault| Charged { fault, sequential })
 }
 
 impl RecordFault {
@@ -56,7 +54,7 @@ impl RecordFault {
     {
         match self {
             RecordFault::Length(_) => 2,
-            RecordFault::Malformed { .. } => 3,
+            RecordFault::Malformed(_) => 3,
             RecordFault::Category => 4,
             RecordFault::Selection => 5,
             RecordFault::Sliced => 6,
@@ -69,11 +67,10 @@ impl RecordFault {
     {
         match self {
             RecordFault::Length(length) => Place::Length(length),
-            RecordFault::Malformed { field, column } => Place::Column { field, column },
-            RecordFault::Category => Place::Field(10),
-            RecordFault::Selection => Place::Field(11),
-            RecordFault::Sliced => Place::Field(12),
-            RecordFault::Cause => Place::Field(12),
+            RecordFault::Malformed(field) => Place::Column(field),
+            RecordFault::Category => Place::Field(Field::Category),
+            RecordFault::Selection => Place::Field(Field::Selection),
+            RecordFault::Sliced | RecordFault::Cause => Place::Field(Field::Cause),
         }
     }
 }

@@ -3,13 +3,15 @@
 
 pub mod call;
 pub mod faults;
+pub mod fields;
 
-ghost use Rattle.std.specs.Prelude.{◌≡◌, length};
+ghost use Rattle.std.specs.Prelude.{◌≡◌};
 ghost use Rattle.cdr.specs.Reader.{sequential_in, read_fields, judged, read_record};
 
 use call::CallRecord;
 use digits::read_decimal;
-use faults::{Charged, RecordFault, malformed};
+use faults::{Charged, RecordFault, charge_to, malformed};
+use fields::Field;
 use values::calendar::{Day, Duration, TimeOfDay};
 use values::labels::{Descriptor, Point};
 
@@ -20,36 +22,23 @@ pub const RECORD: usize = 129;
 fn read_sequential(bytes: &[u8]) -> Option<u64>
     ensures { result ≡ sequential_in bytes.now }
 {
-    let n = read_decimal(bytes, 10)?;
-    if n > 0 { Some(n) } else { None }
+    read_decimal(bytes, 10).filter(|n| *n > 0)
 }
 
-// The fields of a record of the right length, or its first malformed field.
-fn read_fields(bytes: &[u8]) -> Result<CallRecord, Charged<RecordFault>>
-    requires { length bytes.now ≡ 129 }
+// The fields of a record, or its first malformed field.
+fn read_fields(bytes: &[u8; RECORD]) -> Result<CallRecord, Charged<RecordFault>>
     ensures { result ≡ read_fields bytes.now }
 {
-    let Some(sequential) = read_sequential(&bytes[0..10]) else {
-        return Err(malformed(1, 1, 0));
-    };
-    let Some(day) = Day::read(&bytes[31..39]) else {
-        return Err(malformed(3, 32, sequential));
-    };
-    let Some(time) = TimeOfDay::read(&bytes[39..45]) else {
-        return Err(malformed(4, 40, sequential));
-    };
-    let Some(duration) = Duration::read(&bytes[65..72]) else {
-        return Err(malformed(6, 66, sequential));
-    };
-    let Some(point) = Point::read(&bytes[72..82]) else {
-        return Err(malformed(7, 73, sequential));
-    };
-    let Some(descriptor) = Descriptor::read(&bytes[82..87]) else {
-        return Err(malformed(8, 83, sequential));
-    };
-    let Some(_) = read_decimal(&bytes[100..102], 2) else {
-        return Err(malformed(10, 101, sequential));
-    };
+    let sequential = read_sequential(&bytes[0..10]).ok_or(malformed(Field::Sequential, 0))?;
+    let day = Day::read(&bytes[31..39]).ok_or(malformed(Field::Date, sequential))?;
+    let time = TimeOfDay::read(&bytes[39..45]).ok_or(malformed(Field::Time, sequential))?;
+    let duration = Duration::read(&bytes[65..72]).ok_or(malformed(Field::Duration, sequential))?;
+    let point = Point::read(&bytes[72..82]).ok_or(malformed(Field::Point, sequential))?;
+    let descriptor = Descriptor::read(&bytes[82..87]).ok_or(malformed(
+        Field::Descriptor,
+        sequential,
+    ))?;
+    read_decimal(&bytes[100..102], 2).ok_or(malformed(Field::Category, sequential))?;
     Ok(CallRecord {
         sequential,
         day,
@@ -61,40 +50,31 @@ fn read_fields(bytes: &[u8]) -> Result<CallRecord, Charged<RecordFault>>
 }
 
 // Why a record with sound fields is refused, if it is: a test call, one not answered, one cut by the exchange, or
-// one that ended in another way.
-fn judge(bytes: &[u8]) -> Result<(), RecordFault>
-    requires { length bytes.now ≡ 129 }
+// one that ended in another way. Category, end of selection and exit cause stand side by side.
+fn judge(bytes: &[u8; RECORD]) -> Result<(), RecordFault>
     ensures { result ≡ judged bytes.now }
 {
-    if bytes[100] == b'0' && bytes[101] == b'3' {
-        return Err(RecordFault::Category);
-    }
-    if bytes[102] != b'0' || bytes[103] != b'1' {
-        return Err(RecordFault::Selection);
-    }
-    match bytes[104] {
-        b'0' | b'4' => Ok(()),
-        b'1' | b'5' => Err(RecordFault::Sliced),
-        _ => Err(RecordFault::Cause),
+    match &bytes[100..105] {
+        [b'0', b'3', ..] => Err(RecordFault::Category),
+        [_, _, b'0', b'1', b'0' | b'4'] => Ok(()),
+        [_, _, b'0', b'1', b'1' | b'5'] => Err(RecordFault::Sliced),
+        [_, _, b'0', b'1', _] => Err(RecordFault::Cause),
+        _ => Err(RecordFault::Selection),
     }
 }
 
 // The call of a record, or why it is refused.
+#[tactic(auto, unfolding(crate::specs::Reader::read_record))]
 pub fn read(bytes: &[u8]) -> Result<CallRecord, Charged<RecordFault>>
     ensures { result ≡ read_record bytes.now }
 {
-    if bytes.len() != RECORD {
+    let Ok(record) = <&[u8; RECORD]>::try_from(bytes) else {
         return Err(Charged {
             fault: RecordFault::Length(bytes.len()),
             sequential: 0,
         });
-    }
-    let call = read_fields(bytes)?;
-    match judge(bytes) {
-        Ok(()) => Ok(call),
-        Err(fault) => Err(Charged {
-            fault,
-            sequential: call.sequential,
-        }),
-    }
+    };
+    let call = read_fields(record)?;
+    charge_to(judge(record), call.sequential)?;
+    Ok(call)
 }

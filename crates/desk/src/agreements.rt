@@ -18,24 +18,20 @@ fn reason(fault: AgreementFault) -> &'static str {
 
 // The bytes of the file `agreement`.
 pub fn read_agreement(rt: &HostRuntime) -> anyhow::Result<Vec<u8>> {
-    match fs::read(rt, "agreement") {
-        Ok(bytes) => Ok(bytes),
-        Err(why) => Err(anyhow!("agreement refused: the file cannot be read: {why}")),
-    }
+    fs::read(rt, "agreement").map_err(|why| anyhow!(
+        "agreement refused: the file cannot be read: {why}"
+    ))
 }
 
 // The terms of an agreement, or why it is refused, in words.
 pub fn read_terms(rt: &HostRuntime, bytes: &[u8]) -> anyhow::Result<Terms>
     ensures { IfOk result (λ terms. opened bytes.now ≡ Ok terms) }
 {
-    match agreement::reader::open(bytes) {
-        Ok(terms) => Ok(terms),
-        Err(fault) => {
-            let number = fault.number();
-            let part = fault.part();
-            let row = fault.row();
-            let why = reason(fault);
-            Err(anyhow!("agreement refused: {number}, part {part}, row {row} ({why})"))
-        }
-    }
+    agreement::reader::open(bytes).map_err(|fault| {
+        let number = fault.number();
+        let part = fault.part();
+        let row = fault.row();
+        let why = reason(fault);
+        anyhow!("agreement refused: {number}, part {part}, row {row} ({why})")
+    })
 }

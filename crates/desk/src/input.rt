@@ -32,12 +32,9 @@ fn fill(rt: &HostRuntime, buffer: &mut [u8]) -> anyhow::Result<usize>
 pub fn read_reference(rt: &HostRuntime) -> anyhow::Result<Month> {
     let mut line = [0u8; MONTH_LINE];
     let filled = fill(rt, &mut line)?;
-    match read_month(&line[0..filled]) {
-        Some(month) => Ok(month),
-        None => Err(anyhow!(
-            "reference month refused: the first line is not AAAAMM from 200001 to 209912"
-        )),
-    }
+    read_month(&line[0..filled]).ok_or_else(|| {
+        anyhow!("reference month refused: the first line is not AAAAMM from 200001 to 209912")
+    })
 }
 
 // Feeds the rest of the input, a piece at a time.
@@ -50,6 +47,7 @@ pub fn feed_all<L: RowStore<Row = LineRow>, D: RowStore<Row = DayRow>, B: Tariff
 {
     let mut input = rt.stdin();
     let mut piece = vec![in rt.alloc(); 0u8; PIECE]?;
+    // A count that no input reaches: a loop with no end would ask for a handle.
     for _ in 0..u64::MAX {
         let n = input.read(&mut piece)?;
         if n == 0 {

@@ -1,5 +1,6 @@
 // Why a DETRAF file is refused, in words, with the place and the bytes at fault.
 use declared::faults::{Place, ReadFault};
+use std::fmt::Write;
 
 const LINE_WIDTH: usize = 129;
 
@@ -38,21 +39,20 @@ fn show(rt: &HostRuntime, bytes: &[u8]) -> anyhow::Result<String> {
     let mut text = String::new(rt.alloc());
     let mut digits = String::new(rt.alloc());
     for b in bytes {
-        let printable = *b >= b' ' && *b <= b'~';
+        let printable = matches!(*b, b' '..=b'~');
         text.push(if printable { *b as char } else { '.' })?;
-        let pair = format!(in rt.alloc(); " {b:02x}")?;
-        digits.push_str(&pair)?;
+        write!(digits, " {b:02x}")?;
     }
-    let shown = format!(in rt.alloc(); "'{text}', hexadecimal{digits}")?;
-    Ok(shown)
+    Ok(format!(in rt.alloc(); "'{text}', hexadecimal{digits}")?)
 }
 
 // The bytes of these columns of a line; none where the file has no such line.
 fn columns(bytes: &[u8], line: usize, first: usize, last: usize) -> &[u8] {
-    let start = line.saturating_sub(1).saturating_mul(LINE_WIDTH);
-    let from = start.saturating_add(first.saturating_sub(1));
-    let to = start.saturating_add(last);
-    bytes.get(from..to).unwrap_or(&[])
+    bytes
+        .chunks(LINE_WIDTH)
+        .nth(line.saturating_sub(1))
+        .and_then(|row| row.get(first.saturating_sub(1)..last))
+        .unwrap_or(&[])
 }
 
 // A fault of a field, or of a whole line where the field is 0.
@@ -64,19 +64,17 @@ fn at_field(
     line: usize,
     field: u8,
 ) -> anyhow::Result<String> {
-    if field == 0 || field > 16 {
+    // field 0 wraps past the end of the table
+    let Some((name, first, last)) = FIELDS.get(usize::from(field).wrapping_sub(1)) else {
         let shown = show(rt, columns(bytes, line, 1, 128))?;
-        let text = format!(in rt.alloc();
+        return Ok(format!(in rt.alloc();
             "refused: {number}, line {line}, field 0 ({why}): {shown}"
-        )?;
-        return Ok(text);
-    }
-    let (name, first, last) = FIELDS[field as usize - 1];
-    let shown = show(rt, columns(bytes, line, first, last))?;
-    let text = format!(in rt.alloc();
+        )?);
+    };
+    let shown = show(rt, columns(bytes, line, *first, *last))?;
+    Ok(format!(in rt.alloc();
         "refused: {number}, line {line}, field {field} ({why}: {name}, columns {first} to {last}): {shown}"
-    )?;
-    Ok(text)
+    )?)
 }
 
 // The refusal of a file of these bytes.
@@ -85,8 +83,7 @@ pub fn explain(rt: &HostRuntime, bytes: &[u8], fault: ReadFault) -> anyhow::Resu
     let why = cause(fault);
     match fault.place() {
         Place::Length(length) => {
-            let text = format!(in rt.alloc(); "refused: {number}, length {length} ({why})")?;
-            Ok(text)
+            Ok(format!(in rt.alloc(); "refused: {number}, length {length} ({why})")?)
         }
         Place::Field { line, field } => at_field(rt, bytes, number, why, line, field),
     }

@@ -18,10 +18,9 @@ pub fn print_rate(rt: &HostRuntime, millionths: u32) -> anyhow::Result<()> {
 }
 
 pub fn print_amounts(rt: &HostRuntime, amounts: Amounts) -> anyhow::Result<()> {
-    print_reais(rt, amounts.net)?;
-    print_reais(rt, amounts.pis)?;
-    print_reais(rt, amounts.icms)?;
-    print_reais(rt, amounts.gross)?;
+    for cents in [amounts.net, amounts.pis, amounts.icms, amounts.gross] {
+        print_reais(rt, cents)?;
+    }
     println!(rt)?;
     Ok(())
 }

@@ -1,7 +1,7 @@
 -- Number and place of each fault of rating.
 use Rattle.std.specs.Prelude.{ℕ}
 use Rattle.cdr.specs.declared.faults.Place.{Place}
-use Rattle.cdr.specs.declared.faults.Place.TheVariants.{Field}
+use Rattle.cdr.specs.declared.fields.Field.TheVariants.{Date, Duration, Point, Descriptor}
 use Rattle.rating.specs.declared.faults.RatingFault.{RatingFault}
 use Rattle.rating.specs.declared.faults.RatingFault.TheVariants.{Month, NoScenario, TooShort, NoTariff}
 
@@ -12,7 +12,7 @@ rating_number TooShort = 10
 rating_number NoTariff = 11
 
 abbrev pub rating_place : RatingFault → Place
-rating_place Month = Field 3
-rating_place NoScenario = Field 8
-rating_place TooShort = Field 6
-rating_place NoTariff = Field 7
+rating_place Month = Place.Field Date
+rating_place NoScenario = Place.Field Descriptor
+rating_place TooShort = Place.Field Duration
+rating_place NoTariff = Place.Field Point

@@ -3,6 +3,7 @@ ghost use Rattle.std.specs.Prelude.{◌≡◌};
 ghost use Rattle.rating.specs.Faults.{rating_number, rating_place};
 
 use cdr::faults::Place;
+use cdr::fields::Field;
 
 #[derive(Clone, Copy, PartialEq, Eq, Debug)]
 pub enum RatingFault {
@@ -28,10 +29,10 @@ impl RatingFault {
         ensures { result ≡ rating_place self }
     {
         match self {
-            RatingFault::Month => Place::Field(3),
-            RatingFault::NoScenario => Place::Field(8),
-            RatingFault::TooShort => Place::Field(6),
-            RatingFault::NoTariff => Place::Field(7),
+            RatingFault::Month => Place::Field(Field::Date),
+            RatingFault::NoScenario => Place::Field(Field::Descriptor),
+            RatingFault::TooShort => Place::Field(Field::Duration),
+            RatingFault::NoTariff => Place::Field(Field::Point),
         }
     }
 }

@@ -29,11 +29,12 @@ pub fn tenths_of(scenario: Scenario, duration: Duration) -> Option<Tenths>
     }
     let billed = heard.max(scenario.least());
     Some(Tenths {
-        count: (billed + 5) / 6,
+        count: billed.div_ceil(6),
     })
 }
 
 // The tariff and tenths of a call by a book, under these terms, for a reference month.
+#[tactic(auto, unfolding(crate::specs::Rating::rated_by))]
 pub fn rate<B: TariffBook>(
     book: &B,
     terms: Terms,
@@ -45,14 +46,12 @@ pub fn rate<B: TariffBook>(
     if !call.day.month().is_within(reference, terms.months_back()) {
         return Err(RatingFault::Month);
     }
-    let Some(scenario) = book.scenario(call.descriptor) else {
-        return Err(RatingFault::NoScenario);
-    };
-    let Some(tenths) = tenths_of(scenario, call.duration) else {
-        return Err(RatingFault::TooShort);
-    };
-    let Some(tariff) = book.tariff(call.point, call.descriptor, call.day) else {
-        return Err(RatingFault::NoTariff);
-    };
+    let scenario = book
+        .scenario(call.descriptor)
+        .ok_or(RatingFault::NoScenario)?;
+    let tenths = tenths_of(scenario, call.duration).ok_or(RatingFault::TooShort)?;
+    let tariff = book
+        .tariff(call.point, call.descriptor, call.day)
+        .ok_or(RatingFault::NoTariff)?;
     Ok(Rated { tariff, tenths })
 }

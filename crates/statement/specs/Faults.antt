@@ -1,9 +1,8 @@
 -- Number and place of each fault of a take, and the sequential that it is charged to.
-use Rattle.std.specs.Prelude.{ℕ}
+use Rattle.std.specs.Prelude.{ℕ, Some, None, Option}
 use Rattle.cdr.specs.Faults.{record_number, record_place}
 use Rattle.cdr.specs.declared.faults.Charged.{Charged}
 use Rattle.cdr.specs.declared.faults.Place.{Place}
-use Rattle.cdr.specs.declared.faults.Place.TheVariants.{Nowhere}
 use Rattle.cdr.specs.declared.faults.RecordFault.{RecordFault}
 use Rattle.rating.specs.Faults.{rating_number, rating_place}
 use Rattle.rating.specs.declared.faults.RatingFault.{RatingFault}
@@ -22,11 +21,12 @@ take_number (Record c) = record_number c.fault
 take_number (Rating c) = rating_number c.fault
 take_number (Store c) = store_number c.fault
 
-abbrev pub take_place : TakeFault → Place
-take_place Spent = Nowhere
-take_place (Record c) = record_place c.fault
-take_place (Rating c) = rating_place c.fault
-take_place (Store c) = Nowhere
+-- where in the record it lies, or none where the record is not the cause
+abbrev pub take_place : TakeFault → Option Place
+take_place Spent = None
+take_place (Record c) = Some (record_place c.fault)
+take_place (Rating c) = Some (rating_place c.fault)
+take_place (Store c) = None
 
 -- the sequential of the record that was refused, 0 for none
 abbrev pub take_sequential : TakeFault → ℕ

@@ -87,14 +87,14 @@ impl TakeFault {
         }
     }
 
-    pub fn place(self) -> Place
+    // Where in the record it lies, or none where the record is not the cause.
+    pub fn place(self) -> Option<Place>
         ensures { result ≡ take_place self }
     {
         match self {
-            TakeFault::Spent => Place::Nowhere,
-            TakeFault::Record(c) => c.fault.place(),
-            TakeFault::Rating(c) => c.fault.place(),
-            TakeFault::Store(_) => Place::Nowhere,
+            TakeFault::Record(c) => Some(c.fault.place()),
+            TakeFault::Rating(c) => Some(c.fault.place()),
+            TakeFault::Spent | TakeFault::Store(_) => None,
         }
     }
 

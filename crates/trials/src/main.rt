@@ -69,15 +69,18 @@ fn show_fault(rt: &HostRuntime, fault: TakeFault) -> anyhow::Result<()> {
     let number = fault.number();
     let sequential = fault.sequential();
     match fault.place() {
-        Place::Nowhere => println!(rt; "refused {number}, sequential {sequential}")?,
-        Place::Length(length) => println!(rt;
+        None => println!(rt; "refused {number}, sequential {sequential}")?,
+        Some(Place::Length(length)) => println!(rt;
             "refused {number}, length {length}, sequential {sequential}"
         )?,
-        Place::Field(field) => println!(rt;
-            "refused {number}, field {field}, sequential {sequential}"
+        Some(Place::Field(field)) => println!(rt;
+            "refused {number}, field {}, sequential {sequential}",
+            field.number()
         )?,
-        Place::Column { field, column } => println!(rt;
-            "refused {number}, field {field}, column {column}, sequential {sequential}"
+        Some(Place::Column(field)) => println!(rt;
+            "refused {number}, field {}, column {}, sequential {sequential}",
+            field.number(),
+            field.column()
         )?,
     }
     Ok(())
