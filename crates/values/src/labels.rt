@@ -7,14 +7,14 @@ ghost use Rattle.std.specs.Prelude.{◌≡◌, true};
 ghost use Rattle.values.specs.Labels.{is_point_number, is_descriptor_number};
 
 // An interconnection point.
-#[derive(Clone, Copy, PartialEq, Eq)]
+#[derive(Clone, Copy, PartialEq, Eq, PartialOrd, Ord)]
 pub struct Point {
     number: u128,
     ghost ok: { is_point_number number ≡ true },
 }
 
 // A descriptor of a call.
-#[derive(Clone, Copy, PartialEq, Eq)]
+#[derive(Clone, Copy, PartialEq, Eq, PartialOrd, Ord)]
 pub struct Descriptor {
     number: u64,
     ghost ok: { is_descriptor_number number ≡ true },
