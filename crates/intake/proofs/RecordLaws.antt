@@ -87,7 +87,7 @@ none_before (c ∷ cs) =
       | inr f ↦ rw f (rw f (none_before cs))
     ]
 
-feed_after : (cs : List ℕ) → line_length cs < length cs → get_or cs (line_length cs) 0 ≡ line_feed
+pub feed_after : (cs : List ℕ) → line_length cs < length cs → get_or cs (line_length cs) 0 ≡ line_feed
 feed_after [] h = absurd (omega arith)
 feed_after (c ∷ cs) h =
     elim (cases_Bool (eqb c line_feed)) [
