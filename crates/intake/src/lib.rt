@@ -53,8 +53,7 @@ impl<S: RecordSink> Intake<S> {
         ensures taken { (start : S) (xs : List ℕ) → Fed S.RecordSink start xs self → TakesAll S.RecordSink start (records_of xs) result }
     {
         self.end_rest();
-        let Intake { sink, held: _ } = self;
-        sink
+        self.sink
     }
 
     // Hands on the rest that no line feed ends, unless it is empty.
@@ -94,10 +93,10 @@ impl<S: RecordSink> Intake<S> {
         ensures same { self.new.sink ≡ self.old.sink }
         ensures held { (p : List ℕ) → Holds self.old p → Holds self.new (p ++ bytes.now) }
     {
-        if let Some(held) = &mut self.held {
-            if held.try_extend_from_slice(bytes).is_err() {
-                self.held = None;
-            }
+        if let Some(held) = &mut self.held
+            && held.try_extend_from_slice(bytes).is_err()
+        {
+            self.held = None;
         }
     }
 
