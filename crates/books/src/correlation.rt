@@ -1,7 +1,7 @@
 // The correlation layer: pairs of points over any book.
 ghost use Rattle.std.specs.Prelude.{◌≡◌, []};
 ghost use Rattle.rating.specs.Rating.{book_of};
-ghost use Rattle.books.specs.Books.{pairs_of, pair_of, first_key, most_pairs, asked_as, correlated_tables};
+ghost use Rattle.books.specs.Books.{pairs_of, pair_of, first_key, same_point, most_pairs, asked_as, correlated_tables};
 ghost use Rattle.books.specs.Lists.{adding, Adds};
 
 use crate::faults::ListFault;
@@ -22,10 +22,12 @@ pub struct Pair {
 }
 
 impl Keyed for Pair {
+    type Key = Point;
+
     ghost keys = { first_key };
 
-    fn key(&self) -> u128 {
-        self.first.number()
+    fn key(&self) -> Point {
+        self.first
     }
 }
 
@@ -50,7 +52,7 @@ impl<B> Correlation<B> {
 
     // Lists a pair, unless its first point is listed already or the list is full.
     pub fn add(&mut self, first: Point, second: Point) -> Result<(), ListFault>
-        ensures answer { result ≡ adding first_key most_pairs (pair_of first second) (pairs_of self.old) }
+        ensures answer { result ≡ adding same_point first_key most_pairs (pair_of first second) (pairs_of self.old) }
         ensures after { Adds pairs_of (pair_of first second) self.old self.new result }
         ensures below { self.new.below ≡ self.old.below }
     {
@@ -61,10 +63,7 @@ impl<B> Correlation<B> {
     fn asked_as(&self, point: Point) -> Point
         ensures { result ≡ asked_as (pairs_of self.now) point }
     {
-        match self.pairs.find(point.number()) {
-            Some(pair) => pair.second,
-            None => point,
-        }
+        self.pairs.find(point).map_or(point, |pair| pair.second)
     }
 }
 

@@ -1,6 +1,6 @@
 // The flat book: descriptors, each with one scenario and one tariff for all points and days.
 ghost use Rattle.std.specs.Prelude.{◌≡◌, []};
-ghost use Rattle.books.specs.Books.{entries_of, entry_of, descriptor_key, most_descriptors, listed_entry, flat_tables};
+ghost use Rattle.books.specs.Books.{entries_of, entry_of, descriptor_key, same_descriptor, most_descriptors, listed_entry, flat_tables};
 ghost use Rattle.books.specs.Lists.{adding, Adds};
 
 use crate::faults::ListFault;
@@ -22,10 +22,12 @@ pub struct Entry {
 }
 
 impl Keyed for Entry {
+    type Key = Descriptor;
+
     ghost keys = { descriptor_key };
 
-    fn key(&self) -> u128 {
-        self.descriptor.number() as u128
+    fn key(&self) -> Descriptor {
+        self.descriptor
     }
 }
 
@@ -51,7 +53,7 @@ impl FlatBook {
         scenario: Scenario,
         tariff: Tariff,
     ) -> Result<(), ListFault>
-        ensures answer { result ≡ adding descriptor_key most_descriptors (entry_of descriptor scenario tariff) (entries_of self.old) }
+        ensures answer { result ≡ adding same_descriptor descriptor_key most_descriptors (entry_of descriptor scenario tariff) (entries_of self.old) }
         ensures after { Adds entries_of (entry_of descriptor scenario tariff) self.old self.new result }
     {
         self.entries.add(Entry {
@@ -65,7 +67,7 @@ impl FlatBook {
     fn find(&self, descriptor: Descriptor) -> Option<Entry>
         ensures { result ≡ listed_entry descriptor (entries_of self.now) }
     {
-        self.entries.find(descriptor.number() as u128)
+        self.entries.find(descriptor)
     }
 }
 
@@ -75,12 +77,10 @@ impl TariffBook for FlatBook {
     ghost tariffs = { λ b. (flat_tables (entries_of b)).tariffs };
 
     fn scenario(&self, descriptor: Descriptor) -> Option<Scenario> {
-        let entry = self.find(descriptor)?;
-        Some(entry.scenario)
+        self.find(descriptor).map(|entry| entry.scenario)
     }
 
     fn tariff(&self, _point: Point, descriptor: Descriptor, _day: Day) -> Option<Tariff> {
-        let entry = self.find(descriptor)?;
-        Some(entry.tariff)
+        self.find(descriptor).map(|entry| entry.tariff)
     }
 }

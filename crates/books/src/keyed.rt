@@ -1,9 +1,12 @@
-// Items that a list finds by a number.
-ghost use Rattle.std.specs.Prelude.{◌≡◌, ℕ};
+// Items that a list finds by a key.
+ghost use Rattle.std.specs.Prelude.{◌≡◌};
 
 pub trait Keyed: Copy {
-    ghost keys: { Self → ℕ };
+    // Ordered, so that a list may also be searched by the order of its keys.
+    type Key: Copy + Ord;
 
-    fn key(&self) -> u128
+    ghost keys: { Self → Self.Key };
+
+    fn key(&self) -> Self::Key
         ensures { result ≡ keys self.now };
 }

@@ -1,6 +1,6 @@
 -- How the records of an input go on with its next bytes.
-use Rattle.std.proofs.Common.{◌≡◌, ℕ, suc, ◌+◌, ◌<◌, true, false, cond, ◌||◌, eqb, List, [], ◌∷◌, ◌++◌, length, get_or, take, drop, sym, refl, ap, ◌∙◌, inl, inr, arith, take-add}
-use Rattle.std.proofs.lemmas.List.{take_all, take_more}
+use Rattle.std.proofs.Common.{◌≡◌, ℕ, suc, ◌<◌, true, false, cond, ◌||◌, eqb, List, [], ◌∷◌, ◌++◌, length, get_or, take, sym, refl, ap, ◌∙◌, inl, inr, arith}
+use Rattle.std.proofs.lemmas.List.{take_all}
 use Rattle.std.proofs.lemmas.Bool.{false≢true, or_parts, or_right, cond-true, cond-false, cases_Bool, eqb-true}
 use Rattle.intake.specs.Lines.{line_feed, has_end, line_length}
 use Rattle.intake.specs.Records.{on_first, ended_records, unended_rest, rest_record}
@@ -87,7 +87,7 @@ none_before (c ∷ cs) =
       | inr f ↦ rw f (rw f (none_before cs))
     ]
 
-feed_after : (cs : List ℕ) → line_length cs < length cs → get_or cs (line_length cs) 0 ≡ line_feed
+pub feed_after : (cs : List ℕ) → line_length cs < length cs → get_or cs (line_length cs) 0 ≡ line_feed
 feed_after [] h = absurd (omega arith)
 feed_after (c ∷ cs) h =
     elim (cases_Bool (eqb c line_feed)) [
@@ -101,13 +101,6 @@ pub none_in_all : (cs : List ℕ) → line_length cs ≡ length cs → has_end c
 none_in_all cs e =
     let w : take (line_length cs) cs ≡ cs = take_all (line_length cs) cs (omega arith) in
     ap has_end (sym w) ∙ none_before cs
-
--- a line at a place of a piece, with its line feed
-pub take_line : (cs : List ℕ) (at n : ℕ) → n ≡ line_length (drop at cs) → n < length (drop at cs) → take (at + (n + 1)) cs ≡ take at cs ++ (take n (drop at cs) ++ (line_feed ∷ []))
-take_line cs at n e h =
-    let f : get_or (drop at cs) n 0 ≡ line_feed = ap (λ k. get_or (drop at cs) k 0) e ∙ feed_after (drop at cs) (omega arith) in
-    take-add at (n + 1) cs
-    ∙ ap (λ ys. take at cs ++ ys) (take_more (drop at cs) n 0 h ∙ ap (λ b. take n (drop at cs) ++ (b ∷ [])) f)
 
 -- a rest that is not empty is one record
 pub rest_some : (p : List ℕ) → 0 < length p → rest_record p ≡ p ∷ []

@@ -4,21 +4,20 @@
 pub mod lines;
 pub mod sink;
 
-ghost use Rattle.std.specs.Prelude.{◌≡◌, ℕ, ◌≤◌, List, [], ◌∷◌, ◌++◌};
-ghost use Rattle.intake.specs.Records.{longest_kept, records_of};
-ghost use Rattle.intake.specs.Stream.{Holds, Fed, TakesAll};
+ghost use Rattle.std.specs.Prelude.{◌≡◌, ℕ, List, [], ◌++◌};
+ghost use Rattle.intake.specs.Records.{records_of};
+ghost use Rattle.intake.specs.Stream.{holds_nothing, Holds, Fed, TakesAll};
 
-use lines::line_length;
+use arrayvec::ArrayVec;
+use lines::split_line;
 use sink::{LONGEST, RecordSink};
 
 // Hands the records of an input to a sink. A record that lies in one piece is handed on where it lies.
 #[derive(Drop)]
 pub struct Intake<S> {
     sink: S,
-    // the first bytes of the record that is not yet ended
-    held: [u8; LONGEST],
-    // how many bytes it has so far, counted to one past LONGEST
-    length: usize,
+    // the bytes of the record that is not yet ended, or none where it has more than LONGEST
+    held: Option<ArrayVec<u8, LONGEST>>,
 }
 
 impl<S: RecordSink> Intake<S> {
@@ -29,8 +28,7 @@ impl<S: RecordSink> Intake<S> {
     {
         Intake {
             sink,
-            held: [0; LONGEST],
-            length: 0,
+            held: Some(ArrayVec::new()),
         }
     }
 
@@ -40,17 +38,12 @@ impl<S: RecordSink> Intake<S> {
         ensures kept { S.RecordSink.kept self.new.sink }
         ensures fed { (start : S) (xs : List ℕ) → Fed S.RecordSink start xs self.old → Fed S.RecordSink start (xs ++ piece.now) self.new }
     {
-        let mut at = 0;
-        while at < piece.len() {
-            let rest = &piece[at..];
-            let n = line_length(rest);
-            if n == rest.len() {
-                self.hold(rest);
-                return;
-            }
-            self.end_line(&rest[..n]);
-            at += n + 1;
+        let mut rest = piece;
+        while let Some((line, after)) = split_line(rest) {
+            self.end_line(line);
+            rest = after;
         }
+        self.hold(rest);
     }
 
     // Ends the input: a rest that no line feed ends is a record too.
@@ -60,12 +53,7 @@ impl<S: RecordSink> Intake<S> {
         ensures taken { (start : S) (xs : List ℕ) → Fed S.RecordSink start xs self → TakesAll S.RecordSink start (records_of xs) result }
     {
         self.end_rest();
-        let Intake {
-            sink,
-            held: _,
-            length: _,
-        } = self;
-        sink
+        self.sink
     }
 
     // Hands on the rest that no line feed ends, unless it is empty.
@@ -74,9 +62,16 @@ impl<S: RecordSink> Intake<S> {
         ensures kept { S.RecordSink.kept self.new.sink }
         ensures taken { (start : S) (xs : List ℕ) → Fed S.RecordSink start xs self.old → TakesAll S.RecordSink start (records_of xs) self.new.sink }
     {
-        if self.length > 0 {
+        if !self.holds_nothing() {
             self.end_held();
         }
+    }
+
+    // Whether the record that is not yet ended has no byte so far.
+    fn holds_nothing(&self) -> bool
+        ensures { result ≡ holds_nothing self.now }
+    {
+        self.held.as_ref().is_some_and(|held| held.is_empty())
     }
 
     // Ends the record with these bytes.
@@ -85,7 +80,7 @@ impl<S: RecordSink> Intake<S> {
         ensures kept { S.RecordSink.kept self.new.sink }
         ensures taken { (p : List ℕ) → Holds self.old p → Holds self.new [] × S.RecordSink.takes self.old.sink (p ++ bytes.now) self.new.sink }
     {
-        if self.length == 0 {
+        if self.holds_nothing() {
             self.sink.take(bytes);
         } else {
             self.hold(bytes);
@@ -98,25 +93,11 @@ impl<S: RecordSink> Intake<S> {
         ensures same { self.new.sink ≡ self.old.sink }
         ensures held { (p : List ℕ) → Holds self.old p → Holds self.new (p ++ bytes.now) }
     {
-        for b in bytes {
-            if self.length > LONGEST {
-                return;
-            }
-            self.push(*b);
+        if let Some(held) = &mut self.held
+            && held.try_extend_from_slice(bytes).is_err()
+        {
+            self.held = None;
         }
-    }
-
-    // Adds one byte to it.
-    fn push(&mut self, b: u8)
-        requires { self.old.length ≤ longest_kept }
-        ensures same { self.new.sink ≡ self.old.sink }
-        ensures held { (p : List ℕ) → Holds self.old p → Holds self.new (p ++ (b ∷ [])) }
-    {
-        let at = self.length;
-        if at < LONGEST {
-            self.held[at] = b;
-        }
-        self.length = at + 1;
     }
 
     // Hands on the record that is held.
@@ -125,11 +106,9 @@ impl<S: RecordSink> Intake<S> {
         ensures kept { S.RecordSink.kept self.new.sink }
         ensures taken { (p : List ℕ) → Holds self.old p → Holds self.new [] × S.RecordSink.takes self.old.sink p self.new.sink }
     {
-        if self.length <= LONGEST {
-            self.sink.take(&self.held[..self.length]);
-        } else {
-            self.sink.take_overlong();
+        match self.held.replace(ArrayVec::new()) {
+            Some(record) => self.sink.take(record.as_slice()),
+            None => self.sink.take_overlong(),
         }
-        self.length = 0;
     }
 }

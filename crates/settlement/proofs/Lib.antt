@@ -1,2 +1,1 @@
-pub mod RefusalLaws
 pub mod TakeLaws

@@ -11,11 +11,5 @@ pub const MONTH_LINE: usize = 7;
 pub fn read_month(bytes: &[u8]) -> Option<Month>
     ensures { result ≡ month_line bytes.now }
 {
-    if bytes.len() != MONTH_LINE {
-        return None;
-    }
-    if bytes[6] != b'\n' {
-        return None;
-    }
-    Month::read(&bytes[0..6])
+    bytes.strip_suffix(b"\n").and_then(Month::read)
 }

@@ -8,33 +8,25 @@ use digits::write_decimal;
 use statement::board::{GREATEST_NUMBER, LEAST_NUMBER, RefusalBoard, Tally};
 use std::alloc::{AllocError, Global};
 
-// The ten lowest digits of a number, leading zeros included.
-fn ten_digits(n: u64) -> [u8; 10]
-    ensures { result ≡ write_decimal 10 n }
+// Adds the WIDTH lowest digits of a number, leading zeros included.
+fn push_digits<const WIDTH: usize>(text: &mut Vec<u8>, n: u64) -> Result<(), AllocError>
+    requires { WIDTH ≤ 10 }
+    ensures { OnOk result (text.new.items ≡ text.old.items ++ write_decimal WIDTH n) }
 {
-    let mut digits = [0u8; 10];
+    let mut digits = [0; WIDTH];
     write_decimal(&mut digits, n);
-    digits
-}
-
-// Adds the lowest digits of a number, so many.
-fn push_digits(text: &mut Vec<u8>, width: usize, n: u64) -> Result<(), AllocError>
-    requires { width ≤ 10 }
-    ensures { OnOk result (text.new.items ≡ text.old.items ++ write_decimal width n) }
-{
-    let digits = ten_digits(n);
-    text.extend_from_slice(&digits[10 - width..10])
+    text.extend_from_slice(&digits)
 }
 
 // The line of one number: two digits, the count in seven, the least sequential in ten.
 fn push_line(text: &mut Vec<u8>, number: u8, tally: Tally) -> Result<(), AllocError>
     ensures { OnOk result (text.new.items ≡ text.old.items ++ refusal_line number tally) }
 {
-    push_digits(text, 2, number as u64)?;
+    push_digits::<2>(text, number as u64)?;
     text.push(b' ')?;
-    push_digits(text, 7, tally.count as u64)?;
+    push_digits::<7>(text, tally.count as u64)?;
     text.push(b' ')?;
-    push_digits(text, 10, tally.least)?;
+    push_digits::<10>(text, tally.least)?;
     text.push(b'\n')?;
     Ok(())
 }
@@ -45,13 +37,10 @@ fn push_if_met(text: &mut Vec<u8>, number: u8, board: &RefusalBoard) -> Result<(
     requires high { number ≤ 13 }
     ensures { OnOk result (text.new.items ≡ text.old.items ++ line_if_met number (tally_at board.now (number - 2))) }
 {
-    let Some(tally) = board.tally(number) else {
-        return Ok(());
-    };
-    if tally.count == 0 {
-        return Ok(());
+    match board.tally(number).filter(|tally| tally.count > 0) {
+        Some(tally) => push_line(text, number, tally),
+        None => Ok(()),
     }
-    push_line(text, number, tally)
 }
 
 // A line for each number that refused a record, rising.

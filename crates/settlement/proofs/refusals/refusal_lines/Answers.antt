@@ -1,10 +1,8 @@
-use Rattle.std.proofs.Common.{vec_items, arith}
-use Rattle.settlement.proofs.RefusalLaws.{lines_more, lines_all}
+use Rattle.std.proofs.Common.{◌≡◌, ◌-◌, ◌∙◌, ap, arith}
+use Rattle.settlement.specs.Refusals.{first_lines}
 use Rattle.settlement.proofs.refusals.refusal_lines.Goals as goal
 
-pub loop-number-preserved : goal.loop-number-preserved
-loop-number-preserved c =
-    lines_more c.args.board.now c.loop-number.number (vec_items c.loop-number.text) (vec_items c.push_if_met.new.text) (omega arith) c.loop-number.invariant c.in_ok-push_if_met.ensures
-
 pub returns : goal.returns
-returns c = lines_all c.args.board.now c.loop-number.number (vec_items c.loop-number.text) (omega arith) c.loop-number.invariant
+returns c =
+    let all : c.loop-number.number ≡ 14 = omega arith in
+    c.loop-number.invariant ∙ ap (λ k. first_lines (k - 2) c.args.board.now) all

@@ -1,19 +1,10 @@
-use Rattle.std.proofs.Common.{arith}
-use Rattle.books.specs.Lists.{items_of}
-use Rattle.books.proofs.ListLaws.{grown, added}
+use Rattle.std.proofs.Common.{rules}
+use Rattle.std.proofs.lemmas.List.{length_push}
+use Rattle.std.proofs.lemmas.List.Elements.{filter_map-append}
 use Rattle.books.proofs.fixed_list.FixedList.add.Goals as goal
 
 pub invariant_of-self : goal.invariant_of-self
-invariant_of-self g c =
-    let s = c.args.self.now in
-    let m = grown s.slots.cells c.put.new.self.cells s.len g.row.N c.args.item s.within.0 (omega arith) s.whole c.put.ensures in
-    record { within = (m.long, omega arith); whole = m.whole }
+invariant_of-self g c = record { whole = search (rules, filter_map-append, length_push, c.args.self.now.whole) }
 
-pub returns : goal.returns
-returns g c =
-    let s = c.args.self.now in
-    record {
-      answer =
-          added g.T.Keyed.keys s.len g.row.N c.args.item (items_of s) c.key.result c.find.result c.key.ensures c.find.ensures c.if-is_some.ensures s.whole (omega arith);
-      after = (grown s.slots.cells c.put.new.self.cells s.len g.row.N c.args.item s.within.0 (omega arith) s.whole c.put.ensures).items;
-    }
+pub returns-clause-after : goal.returns-clause-after
+returns-clause-after g c = search (rules, filter_map-append)
