@@ -5,9 +5,9 @@ use Rattle.values.specs.declared.terms.Terms.{Terms}
 use Rattle.agreement.specs.declared.faults.AgreementFault.{AgreementFault}
 use Rattle.agreement.specs.declared.faults.AgreementFault.TheVariants.{Malformed, NotRising}
 use Rattle.agreement.specs.declared.parts.Part.{Part}
-use Rattle.agreement.specs.declared.parts.Part.TheVariants.{Scenarios, Tariffs}
+use Rattle.agreement.specs.declared.parts.Part.TheVariants.{Parties, Scenarios, Tariffs}
 use Rattle.agreement.specs.Contents.{contents, onward, parties_body, scenarios_body, tariffs_body}
-use Rattle.agreement.specs.Parts.{part_number, key_length}
+use Rattle.agreement.specs.Parts.{key_length}
 use Rattle.agreement.specs.RowFields.{terms_in}
 use Rattle.agreement.specs.Tables.{rows_in_part, first_malformed, first_not_rising}
 
@@ -18,13 +18,13 @@ faulted fault (Some row) = Err (fault row)
 
 -- the terms of the PART row
 abbrev pub stated_terms : List ℕ → Result Terms AgreementFault
-stated_terms row = ok_or (terms_in row) (Malformed 1 1)
+stated_terms row = ok_or (terms_in row) (Malformed Parties 1)
 
 abbrev pub well_formed : Part → List ℕ → Result (Unit {0}) AgreementFault
-well_formed part body = faulted (Malformed (part_number part)) (first_malformed part (rows_in_part part body))
+well_formed part body = faulted (Malformed part) (first_malformed part (rows_in_part part body))
 
 abbrev pub rising : Part → List ℕ → Result (Unit {0}) AgreementFault
-rising part body = faulted (NotRising (part_number part)) (first_not_rising (key_length part) (rows_in_part part body))
+rising part body = faulted (NotRising part) (first_not_rising (key_length part) (rows_in_part part body))
 
 -- The bodies in their order: first all rows are judged for their form, then those of CENA and TARI for their order.
 abbrev pub judged : List ℕ → List ℕ → List ℕ → Result Terms AgreementFault

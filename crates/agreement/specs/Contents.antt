@@ -10,7 +10,7 @@ use Rattle.agreement.specs.declared.faults.AgreementFault.{AgreementFault}
 use Rattle.agreement.specs.declared.faults.AgreementFault.TheVariants as Fault
 use Rattle.agreement.specs.declared.parts.Part.{Part}
 use Rattle.agreement.specs.declared.parts.Part.TheVariants.{Parties, Scenarios, Tariffs}
-use Rattle.agreement.specs.Parts.{part_number, part_name, row_width, least_rows, most_rows}
+use Rattle.agreement.specs.Parts.{part_name, row_width, least_rows, most_rows}
 
 -- the second where the first is no refusal
 abbrev pub onward : {A B E : Type 0} → Result A E → (A → Result B E) → Result B E
@@ -31,7 +31,7 @@ stated_rows part place e =
 
 -- a bad entry is refused by its part
 abbrev pub entry_rows : Part → ℕ → List ℕ → Result ℕ AgreementFault
-entry_rows part place e = ok_or (stated_rows part place e) (Fault.Contents (part_number part))
+entry_rows part place e = ok_or (stated_rows part place e) (Fault.Contents part)
 
 -- Where the bodies begin: they follow the entries in their order without gaps, and end the file.
 abbrev pub parties_at : ℕ
@@ -46,9 +46,9 @@ tariffs_at n = scenarios_at + row_width Scenarios * n
 abbrev pub ends_at : ℕ → ℕ → ℕ
 ends_at n m = tariffs_at n + row_width Tariffs * m
 
--- the sizes of a file of that length, and part 0 where the length is another
+-- the sizes of a file of that length, and a refusal of the length where it is another
 abbrev pub sized : ℕ → ℕ → ℕ → Result Sizes AgreementFault
-sized len n m = cond (len == ends_at n m) (Ok (record { scenarios = n; tariffs = m })) (Err (Fault.Contents 0))
+sized len n m = cond (len == ends_at n m) (Ok (record { scenarios = n; tariffs = m })) (Err Fault.Length)
 
 -- the first bad entry is refused
 abbrev pub entries : List ℕ → Result Sizes AgreementFault
@@ -57,9 +57,9 @@ entries bs =
     onward (entry_rows Scenarios scenarios_at (between 16 32 bs)) (λ n.
     onward (entry_rows Tariffs (tariffs_at n) (between 32 48 bs)) (λ m. sized (length bs) n m)))
 
--- and part 0 where the file is under 48 bytes
+-- and so is the length where the file is under 48 bytes
 abbrev pub contents : List ℕ → Result Sizes AgreementFault
-contents bs = cond (nat_lt (length bs) parties_at) (Err (Fault.Contents 0)) (entries bs)
+contents bs = cond (nat_lt (length bs) parties_at) (Err Fault.Length) (entries bs)
 
 -- the bodies of a file with these sizes
 abbrev pub parties_body : List ℕ → List ℕ

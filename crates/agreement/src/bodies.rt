@@ -13,10 +13,10 @@ fn check_terms(row: &[u8]) -> Result<Terms, AgreementFault>
     requires { length row.now ≡ 17 }
     ensures { result ≡ stated_terms row.now }
 {
-    match read_terms(row) {
-        Some(terms) => Ok(terms),
-        None => Err(AgreementFault::Malformed { part: 1, row: 1 }),
-    }
+    read_terms(row).ok_or(AgreementFault::Malformed {
+        part: Part::Parties,
+        row: 1,
+    })
 }
 
 // Refuses the first malformed row.
@@ -24,10 +24,7 @@ fn check_rows(part: Part, body: &[u8]) -> Result<(), AgreementFault>
     ensures { result ≡ well_formed part body.now }
 {
     match first_malformed(part, body) {
-        Some(row) => Err(AgreementFault::Malformed {
-            part: part.number(),
-            row,
-        }),
+        Some(row) => Err(AgreementFault::Malformed { part, row }),
         None => Ok(()),
     }
 }
@@ -37,10 +34,7 @@ fn check_rising(part: Part, body: &[u8]) -> Result<(), AgreementFault>
     ensures { result ≡ rising part body.now }
 {
     match first_not_rising(part, body) {
-        Some(row) => Err(AgreementFault::NotRising {
-            part: part.number(),
-            row,
-        }),
+        Some(row) => Err(AgreementFault::NotRising { part, row }),
         None => Ok(()),
     }
 }

@@ -73,12 +73,7 @@ fn entry_rows(entry: &[u8], part: Part, place: usize) -> Result<usize, Agreement
     ensures value { result ≡ entry_rows part place entry.now }
     ensures within { IfOk result (λ n. n ≤ most_rows part) }
 {
-    match stated_rows(entry, part, place) {
-        Some(rows) => Ok(rows),
-        None => Err(AgreementFault::Contents {
-            part: part.number(),
-        }),
-    }
+    stated_rows(entry, part, place).ok_or(AgreementFault::Contents { part })
 }
 
 // The sizes where the length of the file bears them out.
@@ -90,7 +85,7 @@ fn sizes_of(len: usize, scenarios: usize, tariffs: usize) -> Result<Sizes, Agree
     if len == SCENARIOS_AT + SCENARIO_ROW * scenarios + TARIFF_ROW * tariffs {
         Ok(Sizes { scenarios, tariffs })
     } else {
-        Err(AgreementFault::Contents { part: 0 })
+        Err(AgreementFault::Length)
     }
 }
 
@@ -116,7 +111,7 @@ pub fn read_contents(bytes: &[u8]) -> Result<Sizes, AgreementFault>
     ensures whole { IfOk result (λ s. length bytes.now ≡ ends_at s.scenarios s.tariffs) }
 {
     if bytes.len() < PARTIES_AT {
-        return Err(AgreementFault::Contents { part: 0 });
+        return Err(AgreementFault::Length);
     }
     read_entries(bytes)
 }

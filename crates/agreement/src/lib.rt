@@ -7,7 +7,7 @@ mod bytes;
 mod contents;
 pub mod faults;
 mod lookup;
-mod parts;
+pub mod parts;
 pub mod reader;
 mod rows;
 mod search;
