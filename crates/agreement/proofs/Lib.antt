@@ -1,8 +1,7 @@
-pub mod ByteOrder
 pub mod FileLaws
 pub mod KeyLaws
-pub mod RowLaws
+pub mod OrderLaws
 pub mod ScenarioLaws
-pub mod SearchLaws
 pub mod SoundLaws
+pub mod TableLaws
 pub mod TariffLaws

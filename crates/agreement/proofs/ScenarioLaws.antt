@@ -1,21 +1,21 @@
 -- The row of a descriptor, found by the search and told of all rows.
-use Rattle.std.proofs.Common.{◌≡◌, ℕ, zero, suc, ◌/◌, ◌^◌, ◌<◌, ◌≤◌, true, false, eqb, ltb, List, [], ◌∷◌, length, get_or, take, None, sym, refl, ap, ◌∙◌, subst, arith}
-use Rattle.std.proofs.lemmas.List.{take_all}
-use Rattle.std.proofs.lemmas.Bool.{and_parts, ltb-true, cond-true, cond-false, eq-eqb, ne_eqb}
-use Rattle.std.specs.List.{between}
-use Rattle.digits.specs.Positional.{are_digits, big_endian, bytes_of}
-use Rattle.digits.proofs.Positional.{number_places, length_places}
-use Rattle.values.specs.Labels.{is_descriptor}
+use Rattle.std.proofs.Common.{◌≡◌, ℕ, zero, suc, ◌<◌, true, false, List, [], ◌∷◌, length, get_or, take, None, Ok, Err, Result, Less, Equal, Greater, sym, refl, ap, ◌∙◌, ⊎_elim, arith}
+use Rattle.std.proofs.lemmas.Bool.{cond-true, cond-false, cases_lt}
+use Rattle.std.proofs.lemmas.List.{get_or_default}
+use Rattle.std.proofs.lemmas.Map.Text.{is_eq-slice_cmp}
+use Rattle.std.specs.List.{between, AllWithin, HoldsAt}
+use Rattle.std.specs.List.Sorted.{IsNonDecreasingBy, IsSearchInRange, IsBinarySearchResult}
+use Rattle.std.specs.Ordering.{is_eq, ordering_index}
+use Rattle.digits.specs.Positional.{bytes_of}
+use Rattle.std.specs.Result.{result_ok}
+use Rattle.values.specs.Checked.{and_then}
 use Rattle.values.specs.declared.labels.Descriptor.{Descriptor}
 use Rattle.agreement.specs.declared.parts.Part.TheVariants.{Scenarios}
 use Rattle.agreement.specs.Books.{is_of, scenario_among, scenario_table}
 use Rattle.agreement.specs.RowFields.{scenario_in}
-use Rattle.agreement.specs.Searches.{key_at, Rises, Last}
 use Rattle.agreement.specs.Sound.{is_sound}
-use Rattle.agreement.specs.Tables.{rows_in_part, row_at}
-use Rattle.agreement.proofs.RowLaws.{row_of, length_rows}
-use Rattle.agreement.proofs.SearchLaws.{later_above}
-use Rattle.agreement.proofs.SoundLaws.{keys_rise}
+use Rattle.agreement.proofs.OrderLaws.{order, key_at, equal_texts, index_rises, later_above}
+use Rattle.agreement.proofs.SoundLaws.{rows_rise}
 
 among_none : (d : Descriptor) (rows : List (List ℕ)) → ((j : ℕ) → j < length rows → is_of d (get_or rows j []) ≡ false) → scenario_among d rows ≡ None
 among_none d [] h = refl
@@ -30,54 +30,37 @@ among_at d (row ∷ rows) (suc i) l e h =
     cond-false (is_of d row) (scenario_in (between 5 14 row)) (scenario_among d rows) (h 0 (omega arith))
     ∙ among_at d rows i (omega arith) e (λ j k. h (suc j) (omega arith))
 
--- the number of a descriptor fits its bytes
-pub descriptor_small : (d : Descriptor) → d.number < 256 ^ 5
-descriptor_small d = ltb-true d.number (256 ^ 5) (and_parts (ltb d.number (256 ^ 5)) (is_descriptor (bytes_of 5 d.number)) d.ok).0
+module _ (rows : List (List ℕ)) (d : Descriptor) (sound : is_sound Scenarios rows ≡ true) (key : List ℕ) (is : key ≡ bytes_of 5 d.number) where
+  told : (row : List ℕ) → is_of d row ≡ is_eq (order (take 5 row) key)
+  told row = sym (is_eq-slice_cmp (take 5 row) (bytes_of 5 d.number)) ∙ ap (λ v. is_eq (order (take 5 row) v)) (sym is)
 
-module _ (body : List ℕ) (d : Descriptor) (sound : is_sound Scenarios body ≡ true) (bytes : are_digits 256 0 body ≡ true) (key : List ℕ) (is : key ≡ bytes_of 5 d.number) where
-  pub key_long : length key ≡ 5
-  key_long = ap length is ∙ length_places 256 0 5 d.number
+  answers_rise : IsNonDecreasingBy (λ row. ordering_index (order (take 5 row) key)) rows
+  answers_rise i j x h l =
+      ⊎_elim
+      (λ k.
+      let a = ap (λ row. ordering_index (order (take 5 row) key)) (get_or_default rows i x [] (omega arith)) in
+      let b = ap (λ row. ordering_index (order (take 5 row) key)) (get_or_default rows j x [] l) in
+      let r = index_rises (key_at 5 rows i) (key_at 5 rows j) key (later_above 5 rows (rows_rise Scenarios rows sound) i j k l) in
+      omega arith)
+      (λ k. let e = ap (λ v. ordering_index (order (take 5 (get_or rows v x)) key)) (let q : i ≡ j = omega arith in q) in omega arith)
+      (cases_lt i j)
 
-  key_number : big_endian key ≡ d.number
-  key_number = ap big_endian is ∙ number_places 256 0 5 d.number (omega arith) (descriptor_small d)
-
-  label_number_lem : big_endian (take 5 key) ≡ d.number
-  label_number_lem = ap big_endian (take_all 5 key (let l = key_long in omega arith)) ∙ key_number
-
-  rise : Rises (key_at 14 5 body) (length body / 14)
-  rise = keys_rise Scenarios body sound bytes
-
-  pub keys_rise_here : Rises (key_at 14 (length key) body) (length body / 14)
-  keys_rise_here = subst (λ (v : ℕ). Rises (key_at 14 v body) (length body / 14)) (sym key_long) rise
-
-  row_is : (j : ℕ) → j < length body / 14 → is_of d (get_or (rows_in_part Scenarios body) j []) ≡ eqb (key_at 14 5 body j) d.number
-  row_is j h = ap (is_of d) (row_of 14 (length body / 14) j body h)
-
-  pub scenario_none : ((j : ℕ) → j < length body / 14 → key_at 14 (length key) body j ≤ big_endian key → key_at 14 5 body j < big_endian (take 5 key)) → scenario_table body d ≡ None
+  scenario_none : (i : ℕ) → AllWithin (λ row. order (take 5 row) key ≡ Less) rows 0 i × AllWithin (λ row. order (take 5 row) key ≡ Greater) rows i (length rows) → scenario_table rows d ≡ None
   unfolding scenario_table
-  scenario_none none =
-      among_none d (rows_in_part Scenarios body)
-      (λ j l.
-      let n = length_rows 14 (length body / 14) body in
-      let h : j < length body / 14 = omega arith in
-      row_is j h
-      ∙ ne_eqb (key_at 14 5 body j) d.number
-      (λ e.
-      let a = key_number in
-      let b = label_number_lem in
-      let k : key_at 14 (length key) body j ≤ big_endian key = subst (λ (v : ℕ). key_at 14 v body j ≤ big_endian key) (sym key_long) (omega arith) in
-      let c = none j h k in
-      omega arith))
+  scenario_none i split =
+      among_none d rows
+      (λ j l. told (get_or rows j []) ∙ ⊎_elim (λ k. ap is_eq (split.0 j [] (omega arith) k)) (λ k. ap is_eq (split.1 j [] k l)) (cases_lt j i))
 
-  pub scenario_at : (i : ℕ) → Last (key_at 14 (length key) body) (key_at 14 5 body) (length body / 14) (big_endian key) (big_endian (take 5 key)) i → scenario_table body d ≡ scenario_in (between 5 14 (row_at 14 i body))
+  scenario_at : (i : ℕ) → i < length rows → HoldsAt (λ row. order (take 5 row) key ≡ Equal) rows i → scenario_table rows d ≡ scenario_in (between 5 14 (get_or rows i []))
   unfolding scenario_table
-  scenario_at i last =
-      let n = length_rows 14 (length body / 14) body in
-      let w = last.within in
-      let e : key_at 14 5 body i ≡ d.number = last.labelled ∙ label_number_lem in
-      among_at d (rows_in_part Scenarios body) i (omega arith) (row_is i w ∙ eq-eqb (key_at 14 5 body i) d.number e)
+  scenario_at i l found =
+      among_at d rows i l (told (get_or rows i []) ∙ ap is_eq (found []))
       (λ j h.
-      let l : j < length body / 14 = omega arith in
-      let b = later_above (key_at 14 5 body) (length body / 14) rise j i h w in
-      row_is j l ∙ ne_eqb (key_at 14 5 body j) d.number (λ q. omega arith))
-      ∙ ap (λ v. scenario_in (between 5 14 v)) (row_of 14 (length body / 14) i body w)
+      told (get_or rows j [])
+      ∙ ap (λ v. is_eq (order (key_at 5 rows j) v)) (sym (equal_texts (key_at 5 rows i) key (found [])))
+      ∙ ap is_eq (later_above 5 rows (rows_rise Scenarios rows sound) j i h l))
+
+  -- what a search answers is what the table does
+  pub scenario_found : (r : Result ℕ ℕ) → IsSearchInRange r (length rows) → IsBinarySearchResult (λ row. order (take 5 row) key) rows r → and_then (result_ok r) (λ i. scenario_in (between 5 14 (get_or rows i []))) ≡ scenario_table rows d
+  scenario_found (Ok i) l s = sym (scenario_at i l s)
+  scenario_found (Err i) l s = sym (scenario_none i (s answers_rise))

@@ -1,26 +1,26 @@
 -- The row of a point and a descriptor with the latest first day not after a day, found by the search and told of all rows.
-use Rattle.std.proofs.Common.{◌≡◌, ℕ, zero, suc, ◌/◌, ◌^◌, ◌<◌, ◌≤◌, Bool, true, false, cond, ◌&&◌, eqb, ltb, leb, List, [], ◌∷◌, ◌++◌, length, get_or, take, drop, is_some, Some, None, Option, sym, refl, ap, ◌∙◌, subst, ⊎_elim, append_assoc, arith, take-add}
-use Rattle.std.proofs.lemmas.List.{length-append, length-drop, length-take-le, take_at, drop_at}
-use Rattle.std.proofs.lemmas.Bool.{and_parts, and_from, cases_Bool, cases_lt, cases_eq, ltb-true, leb-true, eqb-true, cond-true, cond-false, eq-eqb, le-leb, lt-ltb, le-ltb}
+use Rattle.std.proofs.Common.{◌≡◌, ℕ, zero, suc, ◌+◌, ◌^◌, ◌<◌, ◌≤◌, Bool, true, false, cond, ◌&&◌, eqb, ltb, leb, List, [], ◌∷◌, ◌++◌, length, get_or, take, drop, is_some, Some, None, Option, Ordering, Less, Equal, Greater, sym, refl, ap, ◌∙◌, subst, ⊎_elim, append_assoc, arith, take-add}
+use Rattle.std.proofs.lemmas.List.{get_or_default, length-append, length-drop, length-take-le, take_at, drop_at}
+use Rattle.std.proofs.lemmas.Bool.{and_parts, and_from, cases_Bool, cases_lt, cases_eq, leb-true, cond-true, cond-false, le-leb, lt-ltb, le-ltb}
+use Rattle.std.proofs.lemmas.Cmp.{nat_list_cmp_total, tied_itself}
+use Rattle.std.proofs.lemmas.Slice.Eq.{bytes_eq-Decides}
 use Rattle.std.specs.List.{between}
-use Rattle.digits.specs.Positional.{big_endian, decimal, number_after, are_digits, all_decimal, bytes_of, write_decimal, read_decimal, numeral}
+use Rattle.std.specs.List.Sorted.{IsPartitionedBy, IsPartitionPoint}
+use Rattle.std.specs.Ordering.{nat_cmp, is_le, ordering_then, ordering_reverse}
+use Rattle.std.specs.Str.{bytes_eq}
+use Rattle.digits.specs.Positional.{decimal, are_digits, all_decimal, bytes_of, write_decimal, read_decimal, numeral}
 use Rattle.digits.proofs.Positional.{number_places, length_places, digits_places}
 use Rattle.values.specs.Checked.{and_then}
-use Rattle.values.specs.Labels.{is_point}
 use Rattle.values.specs.Values.{day_of, day_in, point_in, descriptor_in, tariff_in}
 use Rattle.values.specs.declared.calendar.Day.{Day}
 use Rattle.values.specs.declared.labels.Descriptor.{Descriptor}
 use Rattle.values.specs.declared.labels.Point.{Point}
 use Rattle.agreement.specs.declared.parts.Part.TheVariants.{Tariffs}
 use Rattle.agreement.specs.Books.{first_day, begun, later_of, latest, tariff_table}
-use Rattle.agreement.specs.Searches.{key_at, Rises, Last, tariff_key}
+use Rattle.agreement.specs.Keys.{tariff_key}
 use Rattle.agreement.specs.Sound.{is_sound}
-use Rattle.agreement.specs.Tables.{rows_in_part, row_at}
-use Rattle.agreement.proofs.ByteOrder.{number_append, number_cut, digits_take, digits_drop, order_digits, same_fronts, same_rests}
-use Rattle.agreement.proofs.RowLaws.{row_of, length_rows, row_length, row_bytes_lem}
-use Rattle.agreement.proofs.ScenarioLaws.{descriptor_small}
-use Rattle.agreement.proofs.SearchLaws.{later_above}
-use Rattle.agreement.proofs.SoundLaws.{keys_rise, rows_sound}
+use Rattle.agreement.proofs.OrderLaws.{order, at_most, at_most_is, absurd_bool, equal_texts, below_all, order_parts, order_digits, less_nat, nat_not_above, not_above_nat, key_at, later_above}
+use Rattle.agreement.proofs.SoundLaws.{rows_sound, rows_rise}
 
 -- the latest of rows that pass a test is one of them
 abbrev IsOne : (List ℕ → Bool) → List (List ℕ) → List ℕ → Type 0
@@ -79,14 +79,6 @@ latest_at test (x ∷ xs) (suc i) l t h =
     (λ u. cond-false (test x) (later_of x (latest test xs)) (latest test xs) u ∙ rest)
     (cases_Bool (test x))
 
--- decimal digits are bytes
-decimal_bytes : (cs : List ℕ) → are_digits 10 48 cs ≡ true → are_digits 256 0 cs ≡ true
-decimal_bytes [] e = refl
-decimal_bytes (c ∷ cs) e =
-    let p = and_parts (leb 48 c && ltb c 58) (are_digits 10 48 cs) e in
-    let h : c < 58 = ltb-true c 58 (and_parts (leb 48 c) (ltb c 58) p.0).1 in
-    and_from (leb 0 c && ltb c 256) (are_digits 256 0 cs) (and_from (leb 0 c) (ltb c 256) (le-leb 0 c (omega arith)) (lt-ltb c 256 (omega arith))) (decimal_bytes cs p.1)
-
 -- the text of a day is digits
 some_of : {A B : Type 0} (o : Option A) (f : A → Option B) → is_some (and_then o f) ≡ true → is_some o ≡ true
 some_of None f e = e
@@ -102,228 +94,169 @@ day_digits cs e =
     let r = (some_cond (eqb (length cs) 8 && leb 8 19) (read_decimal cs) n).1 in
     (some_cond (all_decimal cs) (Some (decimal cs)) r).0
 
-point_small : (p : Point) → p.number < 256 ^ 10
-point_small p = ltb-true p.number (256 ^ 10) (and_parts (ltb p.number (256 ^ 10)) (is_point (bytes_of 10 p.number)) p.ok).0
-
 day_small : (y : Day) → y.number < 10 ^ 8
 day_small y = let h = y.ok.0.1 in omega arith
-
--- a key of point, descriptor and day, in its parts
-module _ (p : Point) (d : Descriptor) (y : Day) (key : List ℕ) (is : key ≡ tariff_key p d y) where
-  pub tariff_key_long : length key ≡ 23
-  tariff_key_long =
-      let a = length_places 256 0 10 p.number in
-      let b = length_places 256 0 5 d.number in
-      let c = length_places 10 48 8 y.number in
-      let e = length-append (bytes_of 10 p.number) (bytes_of 5 d.number ++ write_decimal 8 y.number) in
-      let f = length-append (bytes_of 5 d.number) (write_decimal 8 y.number) in
-      ap length is ∙ omega arith
-
-  key_parts : key ≡ (bytes_of 10 p.number ++ bytes_of 5 d.number) ++ write_decimal 8 y.number
-  key_parts = is ∙ sym (append_assoc (bytes_of 10 p.number) (bytes_of 5 d.number) (write_decimal 8 y.number))
-
-  label_long : length (bytes_of 10 p.number ++ bytes_of 5 d.number) ≡ 15
-  label_long =
-      let a = length_places 256 0 10 p.number in
-      let b = length_places 256 0 5 d.number in
-      length-append (bytes_of 10 p.number) (bytes_of 5 d.number) ∙ omega arith
-
-  key_label : big_endian (take 15 key) ≡ number_after 256 0 p.number (bytes_of 5 d.number)
-  key_label =
-      ap (λ v. big_endian (take 15 v)) key_parts
-      ∙ ap big_endian (take_at (bytes_of 10 p.number ++ bytes_of 5 d.number) (write_decimal 8 y.number) 15 label_long)
-      ∙ number_append 256 0 0 (bytes_of 10 p.number) (bytes_of 5 d.number)
-      ∙ ap (λ v. number_after 256 0 v (bytes_of 5 d.number)) (number_places 256 0 10 p.number (omega arith) (point_small p))
-
-  key_day : big_endian key ≡ number_after 256 0 (big_endian (take 15 key)) (write_decimal 8 y.number)
-  key_day =
-      number_cut 256 0 0 15 key
-      ∙ ap (number_after 256 0 (big_endian (take 15 key)))
-      (ap (drop 15) key_parts ∙ drop_at (bytes_of 10 p.number ++ bytes_of 5 d.number) (write_decimal 8 y.number) 15 label_long)
-
--- a row in its parts
-module _ (body : List ℕ) (sound : is_sound Tariffs body ≡ true) (bytes : are_digits 256 0 body ≡ true) (i : ℕ) (h : i < length body / 30) where
-  descriptor_long : length (between 10 15 (row_at 30 i body)) ≡ 5
-  descriptor_long =
-      let l = row_length 30 i body h in
-      let m = length-drop 10 (row_at 30 i body) in
-      length-take-le 5 (drop 10 (row_at 30 i body)) (omega arith)
-
-  day_long : length (between 15 23 (row_at 30 i body)) ≡ 8
-  day_long =
-      let l = row_length 30 i body h in
-      let m = length-drop 15 (row_at 30 i body) in
-      length-take-le 8 (drop 15 (row_at 30 i body)) (omega arith)
-
-  descriptor_bytes : are_digits 256 0 (between 10 15 (row_at 30 i body)) ≡ true
-  descriptor_bytes = digits_take 256 0 5 (drop 10 (row_at 30 i body)) (digits_drop 256 0 10 (row_at 30 i body) (row_bytes_lem 30 i body bytes))
-
-  row_day_digits : are_digits 10 48 (between 15 23 (row_at 30 i body)) ≡ true
-  row_day_digits =
-      let r = row_at 30 i body in
-      let a = (and_parts (is_some (point_in (between 0 10 r))) _ (rows_sound Tariffs body sound i h)).1 in
-      let b = (and_parts (is_some (descriptor_in (between 10 15 r))) _ a).1 in
-      day_digits (between 15 23 r) (and_parts (is_some (day_in (between 15 23 r))) (is_some (tariff_in (between 23 30 r))) b).0
-
-  row_label : key_at 30 15 body i ≡ number_after 256 0 (big_endian (between 0 10 (row_at 30 i body))) (between 10 15 (row_at 30 i body))
-  row_label =
-      ap big_endian (take-add 10 5 (row_at 30 i body))
-      ∙ number_append 256 0 0 (take 10 (row_at 30 i body)) (take 5 (drop 10 (row_at 30 i body)))
-
-  row_key : key_at 30 23 body i ≡ number_after 256 0 (key_at 30 15 body i) (between 15 23 (row_at 30 i body))
-  row_key =
-      ap big_endian (take-add 15 8 (row_at 30 i body))
-      ∙ number_append 256 0 0 (take 15 (row_at 30 i body)) (take 8 (drop 15 (row_at 30 i body)))
-
--- two rows of one label stand in the order of their days
-days_rise : (body : List ℕ) (sound : is_sound Tariffs body ≡ true) (bytes : are_digits 256 0 body ≡ true) (i j : ℕ) → i < length body / 30 → j < length body / 30
-    → key_at 30 15 body i ≡ key_at 30 15 body j → key_at 30 23 body i < key_at 30 23 body j → first_day (row_at 30 i body) < first_day (row_at 30 j body)
-days_rise body sound bytes i j hi hj e k =
-    let di = row_day_digits body sound bytes i hi in
-    let dj = row_day_digits body sound bytes j hj in
-    let a : key_at 30 23 body i ≡ number_after 256 0 (key_at 30 15 body j) (between 15 23 (row_at 30 i body)) =
-    row_key body sound bytes i hi ∙ ap (λ v. number_after 256 0 v (between 15 23 (row_at 30 i body))) e in
-    let b = row_key body sound bytes j hj in
-    order_digits 256 0 (key_at 30 15 body j) 10 48 0 (between 15 23 (row_at 30 i body)) (between 15 23 (row_at 30 j body))
-    (day_long body sound bytes i hi ∙ sym (day_long body sound bytes j hj)) (decimal_bytes (between 15 23 (row_at 30 i body)) di) (decimal_bytes (between 15 23 (row_at 30 j body)) dj) di dj (omega arith)
-
--- a row beside a key
-module _ (body : List ℕ) (sound : is_sound Tariffs body ≡ true) (bytes : are_digits 256 0 body ≡ true) (p : Point) (d : Descriptor) (y : Day) (key : List ℕ) (is : key ≡ tariff_key p d y)
-    (i : ℕ) (h : i < length body / 30) where
-  same_length : length (between 10 15 (row_at 30 i body)) ≡ length (bytes_of 5 d.number)
-  same_length = descriptor_long body sound bytes i h ∙ sym (length_places 256 0 5 d.number)
-
-  number_back : big_endian (bytes_of 5 d.number) ≡ d.number
-  number_back = number_places 256 0 5 d.number (omega arith) (descriptor_small d)
-
-  -- it has the key's label exactly if it is of the point and the descriptor
-  pub label_point : key_at 30 15 body i ≡ big_endian (take 15 key) → big_endian (between 0 10 (row_at 30 i body)) ≡ p.number
-  label_point e =
-      same_fronts (big_endian (between 0 10 (row_at 30 i body))) p.number (between 10 15 (row_at 30 i body)) (bytes_of 5 d.number) same_length
-      (descriptor_bytes body sound bytes i h) (digits_places 256 0 5 d.number (omega arith))
-      (sym (row_label body sound bytes i h) ∙ e ∙ key_label p d y key is)
-
-  pub label_descriptor : key_at 30 15 body i ≡ big_endian (take 15 key) → big_endian (between 10 15 (row_at 30 i body)) ≡ d.number
-  label_descriptor e =
-      same_rests p.number p.number (between 10 15 (row_at 30 i body)) (bytes_of 5 d.number) same_length
-      (descriptor_bytes body sound bytes i h) (digits_places 256 0 5 d.number (omega arith)) p.number 0
-      (ap (λ v. number_after 256 0 v (between 10 15 (row_at 30 i body))) (sym (label_point e))
-      ∙ sym (row_label body sound bytes i h) ∙ e ∙ key_label p d y key is)
-      ∙ number_back
-
-  pub is_labelled : big_endian (between 0 10 (row_at 30 i body)) ≡ p.number → big_endian (between 10 15 (row_at 30 i body)) ≡ d.number → key_at 30 15 body i ≡ big_endian (take 15 key)
-  is_labelled a b =
-      row_label body sound bytes i h
-      ∙ ap (λ v. number_after 256 0 v (between 10 15 (row_at 30 i body))) a
-      ∙ same_rests p.number p.number (between 10 15 (row_at 30 i body)) (bytes_of 5 d.number) same_length
-      (descriptor_bytes body sound bytes i h) (digits_places 256 0 5 d.number (omega arith)) 0 p.number (b ∙ sym number_back)
-      ∙ sym (key_label p d y key is)
-
-  -- with that label, it is not above the key exactly if its first day is not after the day
-  module _ (e : key_at 30 15 body i ≡ big_endian (take 15 key)) where
-    key_here : key_at 30 23 body i ≡ number_after 256 0 (big_endian (take 15 key)) (between 15 23 (row_at 30 i body))
-    key_here = row_key body sound bytes i h ∙ ap (λ v. number_after 256 0 v (between 15 23 (row_at 30 i body))) e
-
-    day_back : decimal (write_decimal 8 y.number) ≡ y.number
-    day_back = number_places 10 48 8 y.number (omega arith) (day_small y)
-
-    pub day_begun : key_at 30 23 body i ≤ big_endian key → first_day (row_at 30 i body) ≤ y.number
-    day_begun k =
-        ⊎_elim
-        (λ q.
-        let di = row_day_digits body sound bytes i h in
-        let dy = digits_places 10 48 8 y.number (omega arith) in
-        let b = day_back in
-        let z = order_digits 10 48 0 256 0 (big_endian (take 15 key)) (write_decimal 8 y.number) (between 15 23 (row_at 30 i body))
-        (length_places 10 48 8 y.number ∙ sym (day_long body sound bytes i h)) dy di (decimal_bytes (write_decimal 8 y.number) dy) (decimal_bytes (between 15 23 (row_at 30 i body)) di) (omega arith) in
-        let u = key_here in
-        let v = key_day p d y key is in
-        absurd (omega arith))
-        (λ q. q)
-        (cases_lt y.number (first_day (row_at 30 i body)))
-
-    pub day_not_above : first_day (row_at 30 i body) ≤ y.number → key_at 30 23 body i ≤ big_endian key
-    day_not_above k =
-        ⊎_elim
-        (λ q.
-        let di = row_day_digits body sound bytes i h in
-        let dy = digits_places 10 48 8 y.number (omega arith) in
-        let b = day_back in
-        let u = key_here in
-        let v = key_day p d y key is in
-        let z = order_digits 256 0 (big_endian (take 15 key)) 10 48 0 (write_decimal 8 y.number) (between 15 23 (row_at 30 i body))
-        (length_places 10 48 8 y.number ∙ sym (day_long body sound bytes i h)) (decimal_bytes (write_decimal 8 y.number) dy) (decimal_bytes (between 15 23 (row_at 30 i body)) di) dy di (omega arith) in
-        absurd (omega arith))
-        (λ q. q)
-        (cases_lt (big_endian key) (key_at 30 23 body i))
-
-  -- a row that has begun has the label and is not above the key
-  pub begun_parts : begun p d y (row_at 30 i body) ≡ true → (key_at 30 15 body i ≡ big_endian (take 15 key)) × (key_at 30 23 body i ≤ big_endian key)
-  begun_parts t =
-      let r = row_at 30 i body in
-      let a = and_parts (eqb (big_endian (between 0 10 r)) p.number) _ t in
-      let b = and_parts (eqb (big_endian (between 10 15 r)) d.number) (leb (first_day r) y.number) a.1 in
-      let e = is_labelled (eqb-true (big_endian (between 0 10 r)) p.number a.0) (eqb-true (big_endian (between 10 15 r)) d.number b.0) in
-      (e, day_not_above e (leb-true (first_day r) y.number b.1))
-
-  pub has_begun : key_at 30 15 body i ≡ big_endian (take 15 key) → key_at 30 23 body i ≤ big_endian key → begun p d y (row_at 30 i body) ≡ true
-  has_begun e k =
-      let r = row_at 30 i body in
-      and_from (eqb (big_endian (between 0 10 r)) p.number) (eqb (big_endian (between 10 15 r)) d.number && leb (first_day r) y.number)
-      (eq-eqb (big_endian (between 0 10 r)) p.number (label_point e))
-      (and_from (eqb (big_endian (between 10 15 r)) d.number) (leb (first_day r) y.number)
-      (eq-eqb (big_endian (between 10 15 r)) d.number (label_descriptor e))
-      (le-leb (first_day r) y.number (day_begun e k)))
 
 not_true_false : (b : Bool) → (b ≡ true → ⊥) → b ≡ false
 not_true_false true h = absurd (h refl)
 not_true_false false h = refl
 
--- the search's answer, told of all rows
-module _ (body : List ℕ) (sound : is_sound Tariffs body ≡ true) (bytes : are_digits 256 0 body ≡ true) (p : Point) (d : Descriptor) (y : Day) (key : List ℕ) (is : key ≡ tariff_key p d y) where
-  rise : Rises (key_at 30 23 body) (length body / 30)
-  rise = keys_rise Tariffs body sound bytes
+-- an order in two parts
+then_equal : (o p : Ordering) → o ≡ Equal → ordering_then o p ≡ p
+then_equal o p e = ap (λ v. ordering_then v p) e
 
-  pub tariff_keys_rise : Rises (key_at 30 (length key) body) (length body / 30)
-  tariff_keys_rise = subst (λ (v : ℕ). Rises (key_at 30 v body) (length body / 30)) (sym (tariff_key_long p d y key is)) rise
+-- of two that follow one another, the first parts are equal where the outer ones are
+first_equal : (o p q v : Ordering) → o ≡ ordering_reverse q → ordering_then o p ≡ Less → is_le (ordering_then q v) ≡ true → q ≡ Equal
+first_equal o p Equal v e h k = refl
+first_equal o p Less v e h k = absurd_bool (sym (ap is_le h) ∙ ap (λ u. is_le (ordering_then u p)) e)
+first_equal o p Greater v e h k = absurd_bool (sym k)
 
-  row_there : (j : ℕ) → j < length body / 30 → get_or (rows_in_part Tariffs body) j [] ≡ row_at 30 j body
-  row_there j h = row_of 30 (length body / 30) j body h
+-- a key of point, descriptor and day, in its parts
+abbrev label : Point → Descriptor → List ℕ
+label p d = bytes_of 10 p.number ++ bytes_of 5 d.number
 
-  pub tariff_none : ((j : ℕ) → j < length body / 30 → key_at 30 (length key) body j ≤ big_endian key → key_at 30 15 body j < big_endian (take 15 key)) → tariff_table body p d y ≡ None
-  unfolding tariff_table
-  tariff_none none =
-      ap (λ o. and_then o (λ r. tariff_in (between 23 30 r)))
-      (latest_none (begun p d y) (rows_in_part Tariffs body)
-      (λ j l.
-      let n = length_rows 30 (length body / 30) body in
-      let h : j < length body / 30 = omega arith in
-      not_true_false (begun p d y (get_or (rows_in_part Tariffs body) j []))
-      (λ t.
-      let b = begun_parts body sound bytes p d y key is j h (ap (begun p d y) (sym (row_there j h)) ∙ t) in
-      let e = b.0 in
-      let k : key_at 30 (length key) body j ≤ big_endian key = subst (λ (v : ℕ). key_at 30 v body j ≤ big_endian key) (sym (tariff_key_long p d y key is)) b.1 in
-      let c = none j h k in
-      omega arith)))
+label_long : (p : Point) (d : Descriptor) → length (label p d) ≡ 15
+label_long p d =
+    let a = length_places 256 0 10 p.number in
+    let b = length_places 256 0 5 d.number in
+    length-append (bytes_of 10 p.number) (bytes_of 5 d.number) ∙ omega arith
 
-  pub tariff_at : (i : ℕ) → Last (key_at 30 (length key) body) (key_at 30 15 body) (length body / 30) (big_endian key) (big_endian (take 15 key)) i → tariff_table body p d y ≡ tariff_in (between 23 30 (row_at 30 i body))
-  unfolding tariff_table
-  tariff_at i last =
-      let n = length_rows 30 (length body / 30) body in
-      let w = last.within in
-      let long = tariff_key_long p d y key is in
-      let u : key_at 30 23 body i ≤ big_endian key = subst (λ (v : ℕ). key_at 30 v body i ≤ big_endian key) long last.up_to in
-      ap (λ o. and_then o (λ r. tariff_in (between 23 30 r)))
-      (latest_at (begun p d y) (rows_in_part Tariffs body) i (omega arith)
-      (ap (begun p d y) (row_there i w) ∙ has_begun body sound bytes p d y key is i w last.labelled u)
-      (λ j l t ne.
-      let h : j < length body / 30 = omega arith in
-      let b = begun_parts body sound bytes p d y key is j h (ap (begun p d y) (sym (row_there j h)) ∙ t) in
-      let k : key_at 30 (length key) body j ≤ big_endian key = subst (λ (v : ℕ). key_at 30 v body j ≤ big_endian key) (sym long) b.1 in
-      let m = last.last j h k in
-      let q : j < i = ⊎_elim (λ z. absurd (ne z)) (λ z. omega arith) (cases_eq j i) in
-      let r = days_rise body sound bytes j i h w (b.0 ∙ sym last.labelled) (later_above (key_at 30 23 body) (length body / 30) rise j i q w) in
-      let a = ap first_day (row_there j h) in
-      let c = ap first_day (row_there i w) in
-      omega arith))
-      ∙ ap (λ v. tariff_in (between 23 30 v)) (row_there i w)
+key_parts : (p : Point) (d : Descriptor) (y : Day) (key : List ℕ) → key ≡ tariff_key p d y → key ≡ label p d ++ write_decimal 8 y.number
+key_parts p d y key is = is ∙ sym (append_assoc (bytes_of 10 p.number) (bytes_of 5 d.number) (write_decimal 8 y.number))
+
+key_label : (p : Point) (d : Descriptor) (y : Day) (key : List ℕ) → key ≡ tariff_key p d y → take 15 key ≡ label p d
+key_label p d y key is = ap (take 15) (key_parts p d y key is) ∙ take_at (label p d) (write_decimal 8 y.number) 15 (label_long p d)
+
+module _ (rows : List (List ℕ)) (sound : is_sound Tariffs rows ≡ true) (long : (i : ℕ) → i < length rows → length (get_or rows i []) ≡ 30) where
+  day_text : ℕ → List ℕ
+  day_text i = between 15 23 (get_or rows i [])
+
+  days_are : (i : ℕ) → i < length rows → are_digits 10 48 (between 15 23 (get_or rows i [])) ≡ true
+  days_are i h =
+      let r = get_or rows i [] in
+      let a = (and_parts (is_some (point_in (between 0 10 r))) _ (rows_sound Tariffs rows sound i h)).1 in
+      let b = (and_parts (is_some (descriptor_in (between 10 15 r))) _ a).1 in
+      day_digits (between 15 23 r) (and_parts (is_some (day_in (between 15 23 r))) (is_some (tariff_in (between 23 30 r))) b).0
+
+  day_long : (i : ℕ) → i < length rows → length (between 15 23 (get_or rows i [])) ≡ 8
+  day_long i h =
+      let l = long i h in
+      let m = length-drop 15 (get_or rows i []) in
+      length-take-le 8 (drop 15 (get_or rows i [])) (omega arith)
+
+  front_long : (k i : ℕ) → k ≤ 30 → i < length rows → length (key_at k rows i) ≡ k
+  front_long k i s h = let l = long i h in length-take-le k (get_or rows i []) (omega arith)
+
+  row_key : (i : ℕ) → key_at 23 rows i ≡ key_at 15 rows i ++ between 15 23 (get_or rows i [])
+  row_key i = take-add 15 8 (get_or rows i [])
+
+  -- two rows are ordered by their labels, and then by their days
+  rows_order : (i j : ℕ) → i < length rows → j < length rows → order (key_at 23 rows i) (key_at 23 rows j) ≡ ordering_then (order (key_at 15 rows i) (key_at 15 rows j)) (nat_cmp (first_day (get_or rows i [])) (first_day (get_or rows j [])))
+  rows_order i j hi hj =
+      ap (λ v. order v (key_at 23 rows j)) (row_key i)
+      ∙ ap (order (key_at 15 rows i ++ between 15 23 (get_or rows i []))) (row_key j)
+      ∙ order_parts (key_at 15 rows i) (key_at 15 rows j) _ _ (front_long 15 i (omega arith) hi ∙ sym (front_long 15 j (omega arith) hj))
+      ∙ ap (ordering_then (order (key_at 15 rows i) (key_at 15 rows j))) (order_digits 10 48 0 _ _ (day_long i hi ∙ sym (day_long j hj)) (days_are i hi) (days_are j hj))
+
+  module _ (p : Point) (d : Descriptor) (y : Day) (key : List ℕ) (is : key ≡ tariff_key p d y) where
+    -- and so are a row and the key
+    key_order : (i : ℕ) → i < length rows → order (key_at 23 rows i) key ≡ ordering_then (order (key_at 15 rows i) (label p d)) (nat_cmp (first_day (get_or rows i [])) y.number)
+    key_order i h =
+        let dy = digits_places 10 48 8 y.number (omega arith) in
+        ap (λ v. order v key) (row_key i)
+        ∙ ap (order (key_at 15 rows i ++ between 15 23 (get_or rows i []))) (key_parts p d y key is)
+        ∙ order_parts (key_at 15 rows i) (label p d) _ _ (front_long 15 i (omega arith) h ∙ sym (label_long p d))
+        ∙ ap (ordering_then (order (key_at 15 rows i) (label p d))) (order_digits 10 48 0 _ _ (day_long i h ∙ sym (length_places 10 48 8 y.number)) (days_are i h) dy)
+        ∙ ap (λ v. ordering_then (order (key_at 15 rows i) (label p d)) (nat_cmp (first_day (get_or rows i [])) v)) (number_places 10 48 8 y.number (omega arith) (day_small y))
+
+    -- a row has begun exactly if it has the label and its first day is not after the day
+    begun_parts : (i : ℕ) → begun p d y (get_or rows i []) ≡ true → (key_at 15 rows i ≡ label p d) × (first_day (get_or rows i []) ≤ y.number)
+    begun_parts i t =
+        let r = get_or rows i [] in
+        let a = and_parts (bytes_eq (between 0 10 r) (bytes_of 10 p.number)) _ t in
+        let b = and_parts (bytes_eq (between 10 15 r) (bytes_of 5 d.number)) (leb (first_day r) y.number) a.1 in
+        let e = (bytes_eq-Decides (between 0 10 r) (bytes_of 10 p.number)).0 a.0 in
+        let f = (bytes_eq-Decides (between 10 15 r) (bytes_of 5 d.number)).0 b.0 in
+        (take-add 10 5 r ∙ ap (λ v. v ++ between 10 15 r) e ∙ ap (λ v. bytes_of 10 p.number ++ v) f, leb-true (first_day r) y.number b.1)
+
+    has_begun : (i : ℕ) → i < length rows → key_at 15 rows i ≡ label p d → first_day (get_or rows i []) ≤ y.number → begun p d y (get_or rows i []) ≡ true
+    has_begun i h e k =
+        let r = get_or rows i [] in
+        let parts : take 10 r ++ between 10 15 r ≡ label p d = sym (take-add 10 5 r) ∙ e in
+        let l10 = front_long 10 i (omega arith) h in
+        let m10 = length_places 256 0 10 p.number in
+        let a : take 10 r ≡ bytes_of 10 p.number = sym (take_at (take 10 r) (between 10 15 r) 10 l10) ∙ ap (take 10) parts ∙ take_at (bytes_of 10 p.number) (bytes_of 5 d.number) 10 m10 in
+        let b : between 10 15 r ≡ bytes_of 5 d.number = sym (drop_at (take 10 r) (between 10 15 r) 10 l10) ∙ ap (drop 10) parts ∙ drop_at (bytes_of 10 p.number) (bytes_of 5 d.number) 10 m10 in
+        and_from (bytes_eq (between 0 10 r) (bytes_of 10 p.number)) (bytes_eq (between 10 15 r) (bytes_of 5 d.number) && leb (first_day r) y.number)
+        ((bytes_eq-Decides (between 0 10 r) (bytes_of 10 p.number)).1 a)
+        (and_from (bytes_eq (between 10 15 r) (bytes_of 5 d.number)) (leb (first_day r) y.number)
+        ((bytes_eq-Decides (between 10 15 r) (bytes_of 5 d.number)).1 b)
+        (le-leb (first_day r) y.number k))
+
+    labelled : (i : ℕ) → key_at 15 rows i ≡ label p d → order (key_at 15 rows i) (label p d) ≡ Equal
+    labelled i e = ap (λ v. order v (label p d)) e ∙ tied_itself nat_list_cmp_total (label p d)
+
+    begun_up_to : (i : ℕ) → i < length rows → begun p d y (get_or rows i []) ≡ true → is_le (order (key_at 23 rows i) key) ≡ true
+    begun_up_to i h t =
+        let b = begun_parts i t in
+        ap is_le (key_order i h ∙ then_equal _ _ (labelled i b.0)) ∙ nat_not_above _ _ b.1
+
+    up_to_is : (row : List ℕ) → at_most (take 23 row) key ≡ is_le (order (take 23 row) key)
+    up_to_is row = at_most_is (take 23 row) key
+
+    pub keys_parted : IsPartitionedBy (λ row. at_most (take 23 row) key) rows
+    keys_parted i j x h l t =
+        ⊎_elim
+        (λ k.
+        let u : is_le (order (key_at 23 rows j) key) ≡ true = ap (λ row. is_le (order (take 23 row) key)) (get_or_default rows j [] x l) ∙ sym (up_to_is (get_or rows j x)) ∙ t in
+        up_to_is (get_or rows i x)
+        ∙ ap (λ row. is_le (order (take 23 row) key)) (get_or_default rows i x [] (omega arith))
+        ∙ ap is_le (below_all (key_at 23 rows i) (key_at 23 rows j) key (later_above 23 rows (rows_rise Tariffs rows sound) i j k l) u))
+        (λ k. let e : i ≡ j = omega arith in ap (λ v. at_most (take 23 (get_or rows v x)) key) e ∙ t)
+        (cases_lt i j)
+
+    module _ (after : ℕ) (parted : IsPartitionPoint (λ row. at_most (take 23 row) key ≡ true) (λ row. at_most (take 23 row) key ≡ false) rows after) where
+      -- a row that has begun is among the first
+      early : (j : ℕ) → j < length rows → begun p d y (get_or rows j []) ≡ true → j < after
+      early j h t = ⊎_elim (λ k. k) (λ k. absurd_bool (sym (begun_up_to j h t) ∙ sym (up_to_is (get_or rows j [])) ∙ parted.1 j [] k h)) (cases_lt j after)
+
+      pub tariff_none : ((j : ℕ) → j < length rows → j < after → begun p d y (get_or rows j []) ≡ true → ⊥) → tariff_table rows p d y ≡ None
+      unfolding tariff_table
+      tariff_none none =
+          ap (λ o. and_then o (λ r. tariff_in (between 23 30 r)))
+          (latest_none (begun p d y) rows (λ j l. not_true_false (begun p d y (get_or rows j [])) (λ t. none j l (early j l t) t)))
+
+      pub tariff_no_rows : after ≡ 0 → tariff_table rows p d y ≡ None
+      tariff_no_rows e = tariff_none (λ j l k t. omega arith)
+
+      module _ (i : ℕ) (last : i + 1 ≡ after) (within : i < length rows) where
+        pub tariff_other : (key_at 15 rows i ≡ take 15 key → ⊥) → tariff_table rows p d y ≡ None
+        tariff_other other =
+            tariff_none
+            (λ j l k t.
+            let b = begun_parts j t in
+            let lab = key_label p d y key is in
+            ⊎_elim
+            (λ q.
+            let a = sym (rows_order j i l within) ∙ later_above 23 rows (rows_rise Tariffs rows sound) j i q within in
+            let u = ap is_le (sym (key_order i within)) ∙ sym (up_to_is (get_or rows i [])) ∙ parted.0 i [] (omega arith) (omega arith) in
+            let v : order (key_at 15 rows j) (key_at 15 rows i) ≡ ordering_reverse (order (key_at 15 rows i) (label p d)) =
+            ap (λ w. order w (key_at 15 rows i)) b.0 ∙ nat_list_cmp_total.antisymm (label p d) (key_at 15 rows i) in
+            let z = first_equal _ _ _ _ v a u in
+            other (equal_texts (key_at 15 rows i) (label p d) z ∙ sym lab))
+            (λ q. let e : i ≡ j = omega arith in other (ap (key_at 15 rows) e ∙ b.0 ∙ sym lab))
+            (cases_lt j i))
+
+        pub tariff_found : key_at 15 rows i ≡ take 15 key → tariff_table rows p d y ≡ tariff_in (between 23 30 (get_or rows i []))
+        unfolding tariff_table
+        tariff_found e =
+            let same = e ∙ key_label p d y key is in
+            let u = ap is_le (sym (key_order i within ∙ then_equal _ _ (labelled i same))) ∙ sym (up_to_is (get_or rows i [])) ∙ parted.0 i [] (omega arith) (omega arith) in
+            ap (λ o. and_then o (λ r. tariff_in (between 23 30 r)))
+            (latest_at (begun p d y) rows i within (has_begun i within same (not_above_nat _ _ u))
+            (λ j l t ne.
+            let k = early j l t in
+            let b = begun_parts j t in
+            let q : j < i = ⊎_elim (λ z. absurd (ne z)) (λ z. omega arith) (cases_eq j i) in
+            let eq : order (key_at 15 rows j) (key_at 15 rows i) ≡ Equal = ap (order (key_at 15 rows j)) same ∙ labelled j b.0 in
+            less_nat _ _ (sym (then_equal _ _ eq) ∙ sym (rows_order j i l within) ∙ later_above 23 rows (rows_rise Tariffs rows sound) j i q within)))

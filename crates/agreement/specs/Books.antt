@@ -1,7 +1,8 @@
--- The two tables of a tariff book, from rows: those of a body, and those of a file.
-use Rattle.std.specs.Prelude.{ℕ, Bool, cond, ◌&&◌, List, [], ◌∷◌, Some, None, Ok, Err, Option, Result, ◌==◌, nat_le, nat_lt}
+-- The two tables of a tariff book: those of rows, and those of a file.
+use Rattle.std.specs.Prelude.{ℕ, Bool, cond, ◌&&◌, List, [], ◌∷◌, Some, None, Ok, Err, Option, Result, nat_le, nat_lt}
 use Rattle.std.specs.List.{between}
-use Rattle.digits.specs.Positional.{big_endian, decimal}
+use Rattle.std.specs.Str.{bytes_eq}
+use Rattle.digits.specs.Positional.{bytes_of, decimal}
 use Rattle.values.specs.Checked.{and_then}
 use Rattle.values.specs.Values.{tariff_in}
 use Rattle.values.specs.declared.calendar.Day.{Day}
@@ -10,21 +11,14 @@ use Rattle.values.specs.declared.labels.Point.{Point}
 use Rattle.values.specs.declared.rates.Scenario.{Scenario}
 use Rattle.values.specs.declared.rates.Tariff.{Tariff}
 use Rattle.values.specs.declared.terms.Terms.{Terms}
-use Rattle.agreement.specs.declared.contents.Sizes.{Sizes}
 use Rattle.agreement.specs.declared.faults.AgreementFault.{AgreementFault}
-use Rattle.agreement.specs.declared.parts.Part.TheVariants.{Scenarios, Tariffs}
-use Rattle.agreement.specs.Agreement.{judged, opened}
-use Rattle.agreement.specs.Contents.{contents, scenarios_body, tariffs_body}
+use Rattle.agreement.specs.Agreement.{opened}
+use Rattle.agreement.specs.Contents.{Bodies, contents}
 use Rattle.agreement.specs.RowFields.{scenario_in}
-use Rattle.agreement.specs.Tables.{rows_in_part}
-
--- the point or descriptor in a field, as the number of its bytes
-abbrev pub label_in : ℕ → ℕ → List ℕ → ℕ
-label_in i j row = big_endian (between i j row)
 
 -- CENA: a descriptor's scenario is that of the row with that descriptor
 abbrev pub is_of : Descriptor → List ℕ → Bool
-is_of d row = label_in 0 5 row == d.number
+is_of d row = bytes_eq (between 0 5 row) (bytes_of 5 d.number)
 
 abbrev pub scenario_among : Descriptor → List (List ℕ) → Option Scenario
 scenario_among d [] = None
@@ -36,7 +30,8 @@ first_day row = decimal (between 15 23 row)
 
 abbrev pub begun : Point → Descriptor → Day → List ℕ → Bool
 begun p d day row =
-    (label_in 0 10 row == p.number) && (label_in 10 15 row == d.number && nat_le (first_day row) day.number)
+    bytes_eq (between 0 10 row) (bytes_of 10 p.number)
+    && (bytes_eq (between 10 15 row) (bytes_of 5 d.number) && nat_le (first_day row) day.number)
 
 -- of two rows the one with the later first day
 abbrev pub later_of : List ℕ → Option (List ℕ) → Option (List ℕ)
@@ -51,35 +46,28 @@ latest test (row ∷ rows) = cond (test row) (later_of row (latest test rows)) (
 abbrev pub tariff_among : Point → Descriptor → Day → List (List ℕ) → Option Tariff
 tariff_among p d day rows = and_then (latest (begun p d day) rows) (λ row. tariff_in (between 23 30 row))
 
--- the tables of the two bodies
-unfoldable pub scenario_table : List ℕ → Descriptor → Option Scenario
-scenario_table body d = scenario_among d (rows_in_part Scenarios body)
+-- the tables of the rows of CENA and TARI
+unfoldable pub scenario_table : List (List ℕ) → Descriptor → Option Scenario
+scenario_table rows d = scenario_among d rows
 
-unfoldable pub tariff_table : List ℕ → Point → Descriptor → Day → Option Tariff
-tariff_table body p d day = tariff_among p d day (rows_in_part Tariffs body)
+unfoldable pub tariff_table : List (List ℕ) → Point → Descriptor → Day → Option Tariff
+tariff_table rows p d day = tariff_among p d day rows
 
--- the bodies of CENA and TARI that the contents of a file state
-pub record Bodies : Type 0 where
-  pub scenarios : List ℕ
-  pub tariffs : List ℕ
-
+-- the bodies that the contents of a file state
 abbrev pub no_bodies : Bodies
-no_bodies = record { scenarios = []; tariffs = [] }
+no_bodies = record { parties = []; scenarios = []; tariffs = [] }
 
-abbrev pub stated_bodies : List ℕ → Result Sizes AgreementFault → Bodies
-stated_bodies bs (Ok s) = record { scenarios = scenarios_body s bs; tariffs = tariffs_body s bs }
-stated_bodies bs (Err e) = no_bodies
+abbrev pub stated_bodies : Result Bodies AgreementFault → Bodies
+stated_bodies (Ok b) = b
+stated_bodies (Err e) = no_bodies
 
 -- bytes that opening refuses have no bodies
 abbrev pub if_ok : Result Terms AgreementFault → Bodies → Bodies
 if_ok (Ok terms) b = b
 if_ok (Err e) b = no_bodies
 
-abbrev pub sound_bodies : List ℕ → List ℕ → List ℕ → Bodies
-sound_bodies parties scenarios tariffs = if_ok (judged parties scenarios tariffs) (record { scenarios = scenarios; tariffs = tariffs })
-
 abbrev pub bodies_in : List ℕ → Bodies
-bodies_in bs = if_ok (opened bs) (stated_bodies bs (contents bs))
+bodies_in bs = if_ok (opened bs) (stated_bodies (contents bs))
 
 -- the tables of a file, which are empty where opening refuses it
 unfoldable pub scenarios_in : List ℕ → Descriptor → Option Scenario

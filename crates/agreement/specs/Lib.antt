@@ -2,8 +2,9 @@ pub mod Agreement
 pub mod Books
 pub mod Contents
 pub mod Faults
+pub mod Keys
 pub mod Parts
 pub mod RowFields
-pub mod Searches
 pub mod Sound
 pub mod Tables
+pub mod Views

@@ -1,7 +1,7 @@
--- Bodies whose rows are well formed and rise.
+-- Rows that are well formed and rise.
 use Rattle.std.specs.Prelude.{ℕ, Bool, ◌&&◌, List, is_ok}
 use Rattle.agreement.specs.declared.parts.Part.{Part}
 use Rattle.agreement.specs.Agreement.{well_formed, rising}
 
-abbrev pub is_sound : Part → List ℕ → Bool
-is_sound part body = is_ok (well_formed part body) && is_ok (rising part body)
+abbrev pub is_sound : Part → List (List ℕ) → Bool
+is_sound part rows = is_ok (well_formed part rows) && is_ok (rising part rows)

@@ -2,45 +2,52 @@
 ghost use Rattle.std.specs.Prelude.{◌≡◌};
 ghost use Rattle.agreement.specs.Faults.{refusal};
 
-// The part at fault, 1 to 3 or 0 for none, and the row at fault, counted from 1.
+use crate::parts::Part;
+
+// What is wrong, and where. Rows are counted from 1.
 #[derive(Clone, Copy, PartialEq, Eq, Debug)]
 pub enum AgreementFault {
-    // The contents or the length of the file.
-    Contents { part: u8 },
+    // The length of the file.
+    Length,
+    // An entry of the contents.
+    Contents { part: Part },
     // The first malformed row.
-    Malformed { part: u8, row: usize },
+    Malformed { part: Part, row: usize },
     // The first row that is not above the one before it.
-    NotRising { part: u8, row: usize },
+    NotRising { part: Part, row: usize },
 }
 
 impl AgreementFault {
+    // The number of the refusal.
     pub fn number(self) -> u8
         ensures { result ≡ (refusal self).number }
     {
         match self {
-            AgreementFault::Contents { .. } => 23,
+            AgreementFault::Length | AgreementFault::Contents { .. } => 23,
             AgreementFault::Malformed { .. } => 24,
             AgreementFault::NotRising { .. } => 25,
         }
     }
 
+    // The number of the part at fault, 0 for none.
     pub fn part(self) -> u8
         ensures { result ≡ (refusal self).part }
     {
         match self {
-            AgreementFault::Contents { part } => part,
-            AgreementFault::Malformed { part, .. } => part,
-            AgreementFault::NotRising { part, .. } => part,
+            AgreementFault::Length => 0,
+            AgreementFault::Contents { part }
+            | AgreementFault::Malformed { part, .. }
+            | AgreementFault::NotRising { part, .. } => part.number(),
         }
     }
 
+    // The row at fault, 0 for none.
     pub fn row(self) -> usize
         ensures { result ≡ (refusal self).row }
     {
         match self {
-            AgreementFault::Contents { .. } => 0,
-            AgreementFault::Malformed { row, .. } => row,
-            AgreementFault::NotRising { row, .. } => row,
+            AgreementFault::Length | AgreementFault::Contents { .. } => 0,
+            AgreementFault::Malformed { row, .. } | AgreementFault::NotRising { row, .. } => row,
         }
     }
 }

@@ -3,12 +3,10 @@
 
 mod bodies;
 pub mod book;
-mod bytes;
 mod contents;
 pub mod faults;
 mod lookup;
-mod parts;
+pub mod parts;
 pub mod reader;
 mod rows;
-mod search;
 mod tables;

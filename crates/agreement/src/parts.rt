@@ -3,13 +3,13 @@ ghost use Rattle.std.specs.Prelude.{◌≡◌, ◌<◌, ◌≤◌};
 ghost use Rattle.agreement.specs.Parts.{part_number, part_name, row_width, key_length, least_rows, most_rows};
 
 // Bytes of a row of each part.
-pub const PARTIES_ROW: usize = 17;
+pub(crate) const PARTIES_ROW: usize = 17;
 
-pub const SCENARIO_ROW: usize = 14;
+pub(crate) const SCENARIO_ROW: usize = 14;
 
-pub const TARIFF_ROW: usize = 30;
+pub(crate) const TARIFF_ROW: usize = 30;
 
-#[derive(Clone, Copy)]
+#[derive(Clone, Copy, PartialEq, Eq, Debug)]
 pub enum Part {
     // PART: who bills whom, and at which tax rates.
     Parties,
@@ -21,7 +21,7 @@ pub enum Part {
 
 impl Part {
     // The number in a refusal.
-    pub fn number(self) -> u8
+    pub(crate) fn number(self) -> u8
         ensures { result ≡ part_number self }
     {
         match self {
@@ -32,7 +32,7 @@ impl Part {
     }
 
     // The name in the contents.
-    pub fn name(self) -> &'static [u8]
+    pub(crate) fn name(self) -> &'static [u8]
         ensures { result.now ≡ part_name self }
     {
         match self {
@@ -43,7 +43,7 @@ impl Part {
     }
 
     // Bytes of a row.
-    pub fn width(self) -> usize
+    pub(crate) fn width(self) -> usize
         ensures value { result ≡ row_width self }
         ensures some { 0 < result }
     {
@@ -55,7 +55,7 @@ impl Part {
     }
 
     // The first bytes of a row, by which the rows rise.
-    pub fn key_length(self) -> usize
+    pub(crate) fn key_length(self) -> usize
         ensures value { result ≡ key_length self }
         ensures within { result ≤ row_width self }
     {
@@ -67,7 +67,7 @@ impl Part {
     }
 
     // The least rows, and the most.
-    pub fn least_rows(self) -> u64
+    pub(crate) fn least_rows(self) -> u64
         ensures { result ≡ least_rows self }
     {
         match self {
@@ -77,7 +77,7 @@ impl Part {
         }
     }
 
-    pub fn most_rows(self) -> u64
+    pub(crate) fn most_rows(self) -> u64
         ensures value { result ≡ most_rows self }
         ensures small { result ≤ 1900 }
     {

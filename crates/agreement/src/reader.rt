@@ -11,10 +11,5 @@ use values::terms::Terms;
 pub fn open(bytes: &[u8]) -> Result<Terms, AgreementFault>
     ensures { result ≡ opened bytes.now }
 {
-    let sizes = read_contents(bytes)?;
-    judge(
-        sizes.parties_in(bytes),
-        sizes.scenarios_in(bytes),
-        sizes.tariffs_in(bytes),
-    )
+    judge(&read_contents(bytes)?)
 }

@@ -71,7 +71,7 @@ fn is_tariff_row(row: &[u8]) -> bool
 
 impl Part {
     // Whether the bytes are a well-formed row of this part.
-    pub fn is_row(self, row: &[u8]) -> bool
+    pub(crate) fn is_row(self, row: &[u8]) -> bool
         requires { length row.now ≡ row_width self }
         ensures { result ≡ is_row self row.now }
     {

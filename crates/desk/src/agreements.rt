@@ -10,7 +10,7 @@ use values::terms::Terms;
 // Why an agreement is refused, in words.
 fn reason(fault: AgreementFault) -> &'static str {
     match fault {
-        AgreementFault::Contents { .. } => "contents or length",
+        AgreementFault::Length | AgreementFault::Contents { .. } => "contents or length",
         AgreementFault::Malformed { .. } => "malformed row",
         AgreementFault::NotRising { .. } => "row not above the one before it",
     }

@@ -1,21 +1,24 @@
 // Making the file book, and what it answers.
-ghost use Rattle.std.specs.Prelude.{◌≡◌, true, length};
-ghost use Rattle.agreement.specs.Books.{scenario_table, tariff_table, scenarios_in, tariffs_in, sound_bodies};
+ghost use Rattle.std.specs.Prelude.{◌≡◌, true};
+ghost use Rattle.agreement.specs.Books.{scenario_table, tariff_table, scenarios_in, tariffs_in, if_ok};
+ghost use Rattle.agreement.specs.Agreement.{judged};
 ghost use Rattle.agreement.specs.Sound.{is_sound};
+ghost use Rattle.agreement.specs.Views.{seen};
 ghost use Rattle.agreement.specs.declared.parts.Part.TheVariants.{Scenarios, Tariffs};
 
 use super::FileBook;
 use crate::bodies::judge;
-use crate::contents::read_contents;
+use crate::contents::{Bodies, read_contents};
 use crate::lookup::{find_scenario, find_tariff};
+use crate::parts::{SCENARIO_ROW, TARIFF_ROW};
 use rating::book::TariffBook;
 use values::calendar::Day;
 use values::labels::{Descriptor, Point};
 use values::rates::{Scenario, Tariff};
 
 impl<'a> FileBook<'a> {
-    // The book of two bodies that are sound.
-    fn over(scenarios: &'a [u8], tariffs: &'a [u8]) -> FileBook<'a>
+    // The book of rows that are sound.
+    fn over(scenarios: &'a [[u8; SCENARIO_ROW]], tariffs: &'a [[u8; TARIFF_ROW]]) -> FileBook<'a>
         requires scenarios { is_sound Scenarios scenarios.now ≡ true }
         requires tariffs { is_sound Tariffs tariffs.now ≡ true }
         ensures scenarios { result.scenarios.now ≡ scenarios.now }
@@ -25,14 +28,13 @@ impl<'a> FileBook<'a> {
     }
 
     // The book of the bodies where they are judged sound, and else the empty book.
-    fn of_bodies(parties: &[u8], scenarios: &'a [u8], tariffs: &'a [u8]) -> FileBook<'a>
-        requires { length parties.now ≡ 17 }
-        ensures scenarios { result.scenarios.now ≡ (sound_bodies parties.now scenarios.now tariffs.now).scenarios }
-        ensures tariffs { result.tariffs.now ≡ (sound_bodies parties.now scenarios.now tariffs.now).tariffs }
+    fn of_bodies(bodies: &Bodies<'a>) -> FileBook<'a>
+        ensures scenarios { result.scenarios.now ≡ (if_ok (judged (seen bodies.now)) (seen bodies.now)).scenarios }
+        ensures tariffs { result.tariffs.now ≡ (if_ok (judged (seen bodies.now)) (seen bodies.now)).tariffs }
     {
-        match judge(parties, scenarios, tariffs) {
-            Ok(_) => FileBook::over(scenarios, tariffs),
-            Err(_) => FileBook::over(&scenarios[0..0], &tariffs[0..0]),
+        match judge(bodies) {
+            Ok(_) => FileBook::over(bodies.scenarios, bodies.tariffs),
+            Err(_) => FileBook::over(&[], &[]),
         }
     }
 
@@ -42,12 +44,8 @@ impl<'a> FileBook<'a> {
         ensures tariffs { tariff_table result.tariffs.now ≡ tariffs_in bytes.now }
     {
         match read_contents(bytes) {
-            Ok(sizes) => FileBook::of_bodies(
-                sizes.parties_in(bytes),
-                sizes.scenarios_in(bytes),
-                sizes.tariffs_in(bytes),
-            ),
-            Err(_) => FileBook::over(&bytes[0..0], &bytes[0..0]),
+            Ok(bodies) => FileBook::of_bodies(&bodies),
+            Err(_) => FileBook::over(&[], &[]),
         }
     }
 }

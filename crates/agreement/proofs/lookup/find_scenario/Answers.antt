@@ -1,34 +1,22 @@
-use Rattle.std.proofs.Common.{length, sym, ap, ◌∙◌, arith}
+use Rattle.std.proofs.Common.{[], get_or, take, ap, ◌∙◌, rules}
 use Rattle.std.specs.List.{between}
-use Rattle.digits.proofs.Positional.{bytes_are}
+use Rattle.std.proofs.lemmas.Fn.{always_returns_same}
+use Rattle.values.specs.Checked.{and_then}
 use Rattle.agreement.specs.RowFields.{scenario_in}
-use Rattle.agreement.proofs.RowLaws.{row_fits}
-use Rattle.agreement.proofs.ScenarioLaws.{key_long, keys_rise_here, scenario_none, scenario_at}
+use Rattle.agreement.proofs.OrderLaws.{order}
+use Rattle.agreement.proofs.ScenarioLaws.{scenario_found}
 use Rattle.agreement.proofs.lookup.find_scenario.Goals as goal
-
-pub last_match-requires : goal.last_match-requires
-last_match-requires c =
-    let bytes = bytes_are c.args.body.now (λ i. omega (arith, c.type_inv.body i)) in
-    let l = key_long c.args.body.now c.args.descriptor c.requires bytes c.bytes-key.result c.bytes-key.ensures in
-    record {
-      some = omega arith;
-      within = omega arith;
-      rising = keys_rise_here c.args.body.now c.args.descriptor c.requires bytes c.bytes-key.result c.bytes-key.ensures;
-      part = omega arith;
-    }
-
-pub row_at-row-requires : goal.row_at-row-requires
-row_at-row-requires c = row_fits (length c.args.body.now) 14 c.in_ok-i.i c.in_ok-i.ensures.within
 
 pub returns-in_err-i : goal.returns-in_err-i
 returns-in_err-i c =
-    let bytes = bytes_are c.args.body.now (λ i. omega (arith, c.type_inv.body i)) in
+    let s = c.binary_search_by.ensures.position (λ row. order (take 5 row) c.bytes-key.result) (always_returns_same _ _ _ (λ a r q k. search rules)) in
     c.from_residual.ensures
-    ∙ sym (scenario_none c.args.body.now c.args.descriptor c.requires bytes c.bytes-key.result c.bytes-key.ensures c.in_err-i.ensures)
+    ∙ ap (λ o. and_then o (λ i. scenario_in (between 5 14 (get_or c.args.rows.now i [])))) c.in_err-i.ensures.value
+    ∙ scenario_found c.args.rows.now c.args.descriptor c.requires c.bytes-key.result c.bytes-key.ensures c.binary_search_by.result c.binary_search_by.ensures.bound s
 
 pub returns : goal.returns
 returns c =
-    let bytes = bytes_are c.args.body.now (λ i. omega (arith, c.type_inv.body i)) in
+    let s = c.binary_search_by.ensures.position (λ row. order (take 5 row) c.bytes-key.result) (always_returns_same _ _ _ (λ a r q k. search rules)) in
     c.read_scenario.ensures
-    ∙ ap (λ v. scenario_in (between 5 14 v)) c.row_at-row.ensures.value
-    ∙ sym (scenario_at c.args.body.now c.args.descriptor c.requires bytes c.bytes-key.result c.bytes-key.ensures c.in_ok-i.i c.in_ok-i.ensures)
+    ∙ ap (λ o. and_then o (λ i. scenario_in (between 5 14 (get_or c.args.rows.now i [])))) c.in_ok-i.ensures.value
+    ∙ scenario_found c.args.rows.now c.args.descriptor c.requires c.bytes-key.result c.bytes-key.ensures c.binary_search_by.result c.binary_search_by.ensures.bound s

@@ -1,27 +1,17 @@
-use Rattle.agreement.specs.Parts.{row_width}
+use Rattle.std.proofs.Common.{not, None, Some, ◌∙◌, rules, tests}
+use Rattle.std.proofs.lemmas.Iterator.{YieldsList-from_slice}
+use Rattle.std.proofs.lemmas.Iterator.Search.{position_from_yields_List}
 use Rattle.agreement.specs.RowFields.{is_row}
-use Rattle.agreement.specs.Tables.{rows_in_part}
-use Rattle.agreement.proofs.RowLaws.{row_fits, rows_in, rows_out, test_here, passes, fails, all_pass}
+use Rattle.agreement.proofs.TableLaws.{first_at}
 use Rattle.agreement.proofs.tables.first_malformed.Goals as goal
 
-pub row_at-requires : goal.row_at-requires
-row_at-requires c = row_fits _ _ _ c.loop-i-test.true
-
-pub loop-i-preserved : goal.loop-i-preserved
-loop-i-preserved c =
-    passes (is_row c.args.part) (rows_in_part c.args.part c.args.body.now) c.loop-i.i _ c.loop-i.invariant
-    (rows_in c.width-width.result (row_width c.args.part) c.width-width.ensures.value c.args.body.now c.loop-i.i c.loop-i-test.true)
-    (test_here c.width-width.result (row_width c.args.part) c.width-width.ensures.value c.args.body.now c.loop-i.i c.loop-i-test.true
-    (is_row c.args.part) c.row_at.result.now c.row_at.ensures.value _ c.if-not-is_row.ensures)
-
-pub returns-then-not-is_row : goal.returns-then-not-is_row
-returns-then-not-is_row c =
-    fails (is_row c.args.part) (rows_in_part c.args.part c.args.body.now) c.loop-i.i _ c.loop-i.invariant
-    (rows_in c.width-width.result (row_width c.args.part) c.width-width.ensures.value c.args.body.now c.loop-i.i c.loop-i-test.true)
-    (test_here c.width-width.result (row_width c.args.part) c.width-width.ensures.value c.args.body.now c.loop-i.i c.loop-i-test.true
-    (is_row c.args.part) c.row_at.result.now c.row_at.ensures.value _ c.if-not-is_row.ensures)
+pub returns-in_err-i : goal.returns-in_err-i
+returns-in_err-i g c =
+    c.from_residual.ensures
+    ∙ first_at (λ row. not (is_row c.args.part row)) 1 c.args.rows.now None
+    (position_from_yields_List _ _ _ _ c.in_err-i.ensures.ran (YieldsList-from_slice c.args.rows.now cc) (λ x b q k. search (rules, tests)))
 
 pub returns : goal.returns
-returns c =
-    all_pass (is_row c.args.part) (rows_in_part c.args.part c.args.body.now) c.loop-i.i _ c.loop-i.invariant
-    (rows_out c.width-width.result (row_width c.args.part) c.width-width.ensures.value c.args.body.now c.loop-i.i c.loop-i-test.false)
+returns g c =
+    first_at (λ row. not (is_row c.args.part row)) 1 c.args.rows.now (Some c.in_ok-i.i)
+    (position_from_yields_List _ _ _ _ c.in_ok-i.ensures.ran (YieldsList-from_slice c.args.rows.now cc) (λ x b q k. search (rules, tests)))

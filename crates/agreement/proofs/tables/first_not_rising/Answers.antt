@@ -1,40 +1,26 @@
-use Rattle.std.proofs.Common.{◌-◌, ◌/◌, length, refl, ◌∙◌, arith}
-use Rattle.agreement.specs.Tables.{rows_of}
-use Rattle.agreement.proofs.RowLaws.{row_fits, rows_in, rows_out, keys_here, rising_start, rises, stays, all_rise, rising_by_part}
+use Rattle.std.proofs.Common.{not, drop, None, Some, sym, ap, ◌∙◌, rules, tests}
+use Rattle.std.proofs.lemmas.Iterator.{YieldsList-from_slice, YieldsList-from_zip}
+use Rattle.std.proofs.lemmas.Iterator.Search.{position_from_yields_List}
+use Rattle.std.specs.List.{zip, position_from}
+use Rattle.agreement.specs.Tables.{steps_up, first_not_rising}
+use Rattle.agreement.proofs.TableLaws.{first_at}
 use Rattle.agreement.proofs.tables.first_not_rising.Goals as goal
 
-pub loop-i-init : goal.loop-i-init
-loop-i-init c = rising_start c.key_length-len.result (rows_of c.width-width.result (length c.args.body.now / c.width-width.result) c.args.body.now)
-
-pub key_at-requires : goal.key_at-requires
-key_at-requires c =
-    let k = c.key_length-len.ensures.within in
-    let w = c.width-width.ensures.value in
-    record { row = row_fits (length c.args.body.now) c.width-width.result (c.loop-i.i - 1) (omega arith); within = omega arith }
-
-pub key_at-requires-in-loop-i : goal.key_at-requires-in-loop-i
-key_at-requires-in-loop-i c =
-    let k = c.key_length-len.ensures.within in
-    let w = c.width-width.ensures.value in
-    record { row = row_fits (length c.args.body.now) c.width-width.result c.loop-i.i (omega arith); within = omega arith }
-
-pub loop-i-preserved : goal.loop-i-preserved
-loop-i-preserved c =
-    rises c.key_length-len.result (rows_of c.width-width.result (length c.args.body.now / c.width-width.result) c.args.body.now) c.loop-i.i _ c.loop-i.invariant
-    (rows_in c.width-width.result c.width-width.result refl c.args.body.now c.loop-i.i c.loop-i-test.true)
-    (c.if-not-is_below.ensures.bytes
-    ∙ keys_here c.key_length-len.result c.width-width.result c.loop-i.i c.args.body.now c.loop-i-test.true _ _ c.key_at.ensures.value c.key_at-in-loop-i.ensures.value)
-
-pub returns-then-not-is_below : goal.returns-then-not-is_below
-returns-then-not-is_below c =
-    rising_by_part c.args.part c.width-width.result c.key_length-len.result c.width-width.ensures.value c.key_length-len.ensures.value c.args.body.now _
-    (stays c.key_length-len.result (rows_of c.width-width.result (length c.args.body.now / c.width-width.result) c.args.body.now) c.loop-i.i _ c.loop-i.invariant
-    (rows_in c.width-width.result c.width-width.result refl c.args.body.now c.loop-i.i c.loop-i-test.true)
-    (c.if-not-is_below.ensures.bytes
-    ∙ keys_here c.key_length-len.result c.width-width.result c.loop-i.i c.args.body.now c.loop-i-test.true _ _ c.key_at.ensures.value c.key_at-in-loop-i.ensures.value))
+pub returns-in_err-i : goal.returns-in_err-i
+returns-in_err-i g c =
+    let len = c.key_length-len.result in
+    let rows = c.args.rows.now in
+    c.from_residual-in_err-i.ensures
+    ∙ first_at (λ pair. not (steps_up len pair)) 2 (zip rows c.in_ok-later.later.now) None
+    (position_from_yields_List _ c.position.new.self _ _ c.in_err-i.ensures.ran (YieldsList-from_zip (YieldsList-from_slice rows cc) (YieldsList-from_slice c.in_ok-later.later.now cc)) (λ x b q k. search (rules, tests)))
+    ∙ ap (λ v. position_from (λ pair. not (steps_up len pair)) 2 (zip rows v)) (sym (ap (drop 1) c.in_ok-later.ensures.cases.0))
+    ∙ ap (λ k. first_not_rising k rows) c.key_length-len.ensures.value
 
 pub returns : goal.returns
-returns c =
-    rising_by_part c.args.part c.width-width.result c.key_length-len.result c.width-width.ensures.value c.key_length-len.ensures.value c.args.body.now _
-    (all_rise c.key_length-len.result (rows_of c.width-width.result (length c.args.body.now / c.width-width.result) c.args.body.now) c.loop-i.i _ c.loop-i.invariant
-    (rows_out c.width-width.result c.width-width.result refl c.args.body.now c.loop-i.i c.loop-i-test.false))
+returns g c =
+    let len = c.key_length-len.result in
+    let rows = c.args.rows.now in
+    first_at (λ pair. not (steps_up len pair)) 2 (zip rows c.in_ok-later.later.now) (Some c.in_ok-i.i)
+    (position_from_yields_List _ c.position.new.self _ _ c.in_ok-i.ensures.ran (YieldsList-from_zip (YieldsList-from_slice rows cc) (YieldsList-from_slice c.in_ok-later.later.now cc)) (λ x b q k. search (rules, tests)))
+    ∙ ap (λ v. position_from (λ pair. not (steps_up len pair)) 2 (zip rows v)) (sym (ap (drop 1) c.in_ok-later.ensures.cases.0))
+    ∙ ap (λ k. first_not_rising k rows) c.key_length-len.ensures.value

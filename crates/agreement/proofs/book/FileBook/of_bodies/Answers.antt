@@ -1,7 +1,9 @@
+use Rattle.agreement.specs.Views.{seen}
 use Rattle.agreement.proofs.SoundLaws.{judged_sound}
 use Rattle.agreement.proofs.book.FileBook.of_bodies.Goals as goal
 
-pub over-requires : goal.over-requires
-over-requires c =
-    let s = judged_sound c.args.parties.now c.args.scenarios.now c.args.tariffs.now _ c.in-Ok.ensures in
-    record { scenarios = s.0; tariffs = s.1 }
+pub over-requires-clause-scenarios : goal.over-requires-clause-scenarios
+over-requires-clause-scenarios c = (judged_sound (seen c.args.bodies.now) _ c.in-Ok.ensures).0
+
+pub over-requires-clause-tariffs : goal.over-requires-clause-tariffs
+over-requires-clause-tariffs c = (judged_sound (seen c.args.bodies.now) _ c.in-Ok.ensures).1
