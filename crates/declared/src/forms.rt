@@ -1,8 +1,8 @@
 // The form that each field of a line must have.
-ghost use Rattle.std.specs.Prelude.{◌≡◌, true, length};
+ghost use Rattle.std.specs.Prelude.{◌≡◌, true};
 ghost use Rattle.declared.specs.Forms.{field, holds, is_sound, is_within, all_within, first_malformed, head_forms, detail_forms, total_forms, body_forms, is_total, line_fault};
 
-use crate::bytes::{is_filled, is_same};
+use crate::lines::LineBytes;
 use digits::read_decimal;
 use values::calendar::Month;
 use values::labels::{Descriptor, Point};
@@ -38,17 +38,13 @@ pub struct FieldForm {
 fn is_code(bytes: &[u8]) -> bool
     ensures { result ≡ holds Form.Code bytes.now bytes.now }
 {
-    match read_decimal(bytes, 3) {
-        Some(code) => Carrier::new(code as u32).is_some(),
-        None => false,
-    }
+    read_decimal(bytes, 3).is_some_and(|code| Carrier::new(code as u32).is_some())
 }
 
 impl Form {
     // Whether a field has this form, in a file with this first line.
-    fn holds(self, heading: &[u8], field: &[u8]) -> bool
-        requires { length heading.now ≡ 129 }
-        ensures { result ≡ holds self heading.now field.now }
+    fn holds(self, heading: &LineBytes, field: &[u8]) -> bool
+            ensures { result ≡ holds self heading.now field.now }
     {
         match self {
             Form::Code => is_code(field),
@@ -56,10 +52,10 @@ impl Form {
             Form::Point => Point::read(field).is_some(),
             Form::Descriptor => Descriptor::read(field).is_some(),
             Form::Digits => read_decimal(field, field.len()).is_some(),
-            Form::Filled(byte) => is_filled(field, byte),
-            Form::Creditor => is_same(field, &heading[0..3]),
-            Form::Debtor => is_same(field, &heading[3..6]),
-            Form::Reference => is_same(field, &heading[6..12]),
+            Form::Filled(byte) => field.iter().all(|b| *b == byte),
+            Form::Creditor => field == &heading[0..3],
+            Form::Debtor => field == &heading[3..6],
+            Form::Reference => field == &heading[6..12],
         }
     }
 }
@@ -77,11 +73,9 @@ impl FieldForm {
     }
 
     // Whether a line has its form in these columns.
-    fn is_sound(self, heading: &[u8], line: &[u8]) -> bool
-        requires within { is_within self ≡ true }
-        requires heading { length heading.now ≡ 129 }
-        requires line { length line.now ≡ 129 }
-        ensures { result ≡ is_sound heading.now line.now self }
+    fn is_sound(self, heading: &LineBytes, line: &LineBytes) -> bool
+        requires { is_within self ≡ true }
+                ensures { result ≡ is_sound heading.now line.now self }
     {
         let start = self.first - 1;
         let end = self.last;
@@ -90,18 +84,12 @@ impl FieldForm {
 }
 
 // The number of the first field that has not its form.
-fn first_malformed(forms: &[FieldForm], heading: &[u8], line: &[u8]) -> Option<u8>
-    requires forms { all_within forms.now ≡ true }
-    requires heading { length heading.now ≡ 129 }
-    requires line { length line.now ≡ 129 }
+fn first_malformed(forms: &[FieldForm], heading: &LineBytes, line: &LineBytes) -> Option<u8>
+    requires { all_within forms.now ≡ true }
     ensures { result ≡ first_malformed heading.now line.now forms.now }
 {
-    for field in forms {
-        if !field.is_sound(heading, line) {
-            return Some(field.number);
-        }
-    }
-    None
+    let malformed = forms.iter().find(|field| !field.is_sound(heading, line));
+    malformed.map(|field| field.number)
 }
 
 // The parties and the reference month.
@@ -165,17 +153,14 @@ fn total_forms() -> [FieldForm; 12]
 }
 
 // Whether the type of a line is 01.
-pub fn is_total(line: &[u8]) -> bool
-    requires { length line.now ≡ 129 }
+pub fn is_total(line: &LineBytes) -> bool
     ensures { result ≡ is_total line.now }
 {
     line[28] == b'0' && line[29] == b'1'
 }
 
 // The number of the first malformed field of a line after the first three.
-fn body_fault(heading: &[u8], line: &[u8]) -> Option<u8>
-    requires heading { length heading.now ≡ 129 }
-    requires line { length line.now ≡ 129 }
+fn body_fault(heading: &LineBytes, line: &LineBytes) -> Option<u8>
     ensures { result ≡ first_malformed heading.now line.now (body_forms line.now) }
 {
     if is_total(line) {
@@ -186,13 +171,8 @@ fn body_fault(heading: &[u8], line: &[u8]) -> Option<u8>
 }
 
 // The number of the first malformed field of a line.
-pub fn line_fault(is_first: bool, heading: &[u8], line: &[u8]) -> Option<u8>
-    requires heading { length heading.now ≡ 129 }
-    requires line { length line.now ≡ 129 }
+pub fn line_fault(is_first: bool, heading: &LineBytes, line: &LineBytes) -> Option<u8>
     ensures { result ≡ line_fault is_first heading.now line.now }
 {
-    match first_malformed(&head_forms(is_first), heading, line) {
-        Some(field) => Some(field),
-        None => body_fault(heading, line),
-    }
+    first_malformed(&head_forms(is_first), heading, line).or_else(|| body_fault(heading, line))
 }

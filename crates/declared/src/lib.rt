@@ -1,7 +1,6 @@
 // The reader of declared DETRAF files, and the writer of their lines.
 #![tactic(auto)]
 
-mod bytes;
 mod checks;
 mod columns;
 pub mod faults;
