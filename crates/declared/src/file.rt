@@ -11,7 +11,7 @@ use crate::lines::{DeclaredLine, Head, LineBytes};
 use detraf::line::LINE_WIDTH;
 
 // A file that was accepted.
-#[derive(Clone, Copy)]
+#[derive(Clone, Copy, PartialEq, Eq, Debug)]
 pub struct Declared<'a> {
     lines: &'a [LineBytes],
     head: Head,

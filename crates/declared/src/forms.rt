@@ -1,6 +1,6 @@
 // The form that each field of a line must have.
 ghost use Rattle.std.specs.Prelude.{◌≡◌, true};
-ghost use Rattle.declared.specs.Forms.{field, holds, is_sound, is_within, all_within, first_malformed, head_forms, detail_forms, total_forms, body_forms, is_total, line_fault};
+ghost use Rattle.declared.specs.Forms.{all_are, field, holds, is_sound, is_within, all_within, first_malformed, head_forms, detail_forms, total_forms, body_forms, is_total, line_fault};
 
 use crate::lines::LineBytes;
 use digits::read_decimal;
@@ -9,7 +9,7 @@ use values::labels::{Descriptor, Point};
 use values::terms::Carrier;
 
 // What a field must be.
-#[derive(Clone, Copy)]
+#[derive(Clone, Copy, PartialEq, Eq, Debug)]
 pub enum Form {
     // A carrier's code, 001 to 999.
     Code,
@@ -26,7 +26,7 @@ pub enum Form {
 }
 
 // A field by its number and its columns, from 1.
-#[derive(Clone, Copy)]
+#[derive(Clone, Copy, PartialEq, Eq, Debug)]
 pub struct FieldForm {
     pub number: u8,
     pub first: usize,
@@ -41,6 +41,13 @@ fn is_code(bytes: &[u8]) -> bool
     read_decimal(bytes, 3).is_some_and(|code| Carrier::new(code as u32).is_some())
 }
 
+// Whether every byte is this one.
+fn is_filled(bytes: &[u8], byte: u8) -> bool
+    ensures { result ≡ all_are byte bytes.now }
+{
+    bytes.iter().all(|b| *b == byte)
+}
+
 impl Form {
     // Whether a field has this form, in a file with this first line.
     fn holds(self, heading: &LineBytes, field: &[u8]) -> bool
@@ -52,7 +59,7 @@ impl Form {
             Form::Point => Point::read(field).is_some(),
             Form::Descriptor => Descriptor::read(field).is_some(),
             Form::Digits => read_decimal(field, field.len()).is_some(),
-            Form::Filled(byte) => field.iter().all(|b| *b == byte),
+            Form::Filled(byte) => is_filled(field, byte),
             Form::Creditor => field == &heading[0..3],
             Form::Debtor => field == &heading[3..6],
             Form::Reference => field == &heading[6..12],
