@@ -8,6 +8,7 @@ use declared::file::Declared;
 use declared::lines::{DeclaredLine, DetailLine};
 use desk::refusals::explain;
 use detraf::amounts::Amounts;
+use detraf::line::LINE_WIDTH;
 use ledger::day::DayRow;
 use ledger::line::LineRow;
 use ledger::store::RowStore;
@@ -22,8 +23,6 @@ use verdicts::faults::ContestFault;
 use verdicts::judging::judge;
 use verdicts::months::{MonthContest, contest_month};
 use verdicts::verdict::Verdict;
-
-const LINE_WIDTH: usize = 129;
 
 // How many months before the reference month, the earliest first.
 const BACK: [u8; 3] = [2, 1, 0];

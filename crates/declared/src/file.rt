@@ -1,11 +1,13 @@
 // A declared file.
 ghost use Rattle.std.specs.Prelude.{◌≡◌};
+ghost use Rattle.declared.specs.Details.{details, details_left};
 ghost use Rattle.declared.specs.File.{read_file, seen_read, seen_file, line_of, detail_count};
 ghost use Rattle.declared.specs.Lines.{seen_option};
 ghost use Rattle.declared.specs.RoundTrips.{WritesBack, ReadsBack};
 
 use crate::checks::{check_fields, check_length, check_lines};
 use crate::columns::{read_head, read_line};
+use crate::details::Details;
 use crate::faults::ReadFault;
 use crate::lines::{DeclaredLine, Head, LineBytes};
 use detraf::line::LINE_WIDTH;
@@ -44,6 +46,15 @@ impl<'a> Declared<'a> {
         ensures { result ≡ detail_count (seen_file self.entry) }
     {
         self.lines.len().saturating_sub(1)
+    }
+
+    // The detail lines, in the order of the file.
+    pub fn details(self) -> Details<'a>
+        ensures { details_left result ≡ details (seen_file self.entry) }
+    {
+        Details {
+            rest: &self.lines[..self.detail_count()],
+        }
     }
 
     // The line at index i, or none past the end.

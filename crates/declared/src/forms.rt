@@ -51,7 +51,7 @@ fn is_filled(bytes: &[u8], byte: u8) -> bool
 impl Form {
     // Whether a field has this form, in a file with this first line.
     fn holds(self, heading: &LineBytes, field: &[u8]) -> bool
-            ensures { result ≡ holds self heading.now field.now }
+        ensures { result ≡ holds self heading.now field.now }
     {
         match self {
             Form::Code => is_code(field),
@@ -82,7 +82,7 @@ impl FieldForm {
     // Whether a line has its form in these columns.
     fn is_sound(self, heading: &LineBytes, line: &LineBytes) -> bool
         requires { is_within self ≡ true }
-                ensures { result ≡ is_sound heading.now line.now self }
+        ensures { result ≡ is_sound heading.now line.now self }
     {
         let start = self.first - 1;
         let end = self.last;

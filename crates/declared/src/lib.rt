@@ -3,6 +3,7 @@
 
 mod checks;
 mod columns;
+pub mod details;
 pub mod faults;
 pub mod file;
 mod forms;

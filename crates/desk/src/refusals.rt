@@ -1,7 +1,6 @@
 // Why a DETRAF file is refused, in words, with the place and the bytes at fault.
 use declared::faults::{Place, ReadFault};
-
-const LINE_WIDTH: usize = 129;
+use detraf::line::LINE_WIDTH;
 
 // The name and the columns of each field, from 1.
 const FIELDS: [(&str, usize, usize); 16] = [
@@ -55,7 +54,22 @@ fn columns(bytes: &[u8], line: usize, first: usize, last: usize) -> &[u8] {
     bytes.get(from..to).unwrap_or(&[])
 }
 
-// A fault of a field, or of a whole line where the field is 0.
+// A fault of a whole line, which is printed as field 0.
+fn at_line(
+    rt: &HostRuntime,
+    bytes: &[u8],
+    number: u8,
+    why: &str,
+    line: usize,
+) -> anyhow::Result<String> {
+    let shown = show(rt, columns(bytes, line, 1, 128))?;
+    let text = format!(in rt.alloc();
+        "refused: {number}, line {line}, field 0 ({why}): {shown}"
+    )?;
+    Ok(text)
+}
+
+// A fault of a field.
 fn at_field(
     rt: &HostRuntime,
     bytes: &[u8],
@@ -65,11 +79,7 @@ fn at_field(
     field: u8,
 ) -> anyhow::Result<String> {
     if field == 0 || field > 16 {
-        let shown = show(rt, columns(bytes, line, 1, 128))?;
-        let text = format!(in rt.alloc();
-            "refused: {number}, line {line}, field 0 ({why}): {shown}"
-        )?;
-        return Ok(text);
+        return at_line(rt, bytes, number, why, line);
     }
     let (name, first, last) = FIELDS[field as usize - 1];
     let shown = show(rt, columns(bytes, line, first, last))?;
@@ -89,5 +99,6 @@ pub fn explain(rt: &HostRuntime, bytes: &[u8], fault: ReadFault) -> anyhow::Resu
             Ok(text)
         }
         Place::Field { line, field } => at_field(rt, bytes, number, why, line, field),
+        Place::Line { line } => at_line(rt, bytes, number, why, line),
     }
 }

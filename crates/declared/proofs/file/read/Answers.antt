@@ -1,7 +1,7 @@
 use Rattle.std.proofs.Common.{◌/◌, length, Ok, get_or, [], ap, ◌∙◌, arith}
 use Rattle.std.proofs.lemmas.Result.{err_from_is_err_and}
 use Rattle.digits.proofs.Positional.{bytes_are}
-use Rattle.declared.specs.File.{shown, shown_in, well_formed, sound, lines_in}
+use Rattle.declared.specs.File.{shown, shown_in, well_formed, sound}
 use Rattle.declared.specs.Lines.{head_in}
 use Rattle.declared.specs.declared.lines.Head.{Head}
 use Rattle.declared.proofs.CheckLaws.{line_of}
