@@ -1,5 +1,5 @@
 // A declared file.
-ghost use Rattle.std.specs.Prelude.{◌≡◌};
+ghost use Rattle.std.specs.Prelude.{◌≡◌, ◌<◌, ◌^◌, length};
 ghost use Rattle.declared.specs.Details.{details, details_left};
 ghost use Rattle.declared.specs.File.{read_file, seen_read, seen_file, line_of, detail_count};
 ghost use Rattle.declared.specs.Lines.{seen_option};
@@ -50,7 +50,8 @@ impl<'a> Declared<'a> {
 
     // The detail lines, in the order of the file.
     pub fn details(self) -> Details<'a>
-        ensures { details_left result ≡ details (seen_file self.entry) }
+        ensures value { details_left result ≡ details (seen_file self.entry) }
+        ensures bound { length (details_left result) < 2 ^ 64 }
     {
         Details {
             rest: &self.lines[..self.detail_count()],

@@ -63,9 +63,7 @@ fn at_line(
     line: usize,
 ) -> anyhow::Result<String> {
     let shown = show(rt, columns(bytes, line, 1, 128))?;
-    let text = format!(in rt.alloc();
-        "refused: {number}, line {line}, field 0 ({why}): {shown}"
-    )?;
+    let text = format!(in rt.alloc(); "refused: {number}, line {line}, field 0 ({why}): {shown}")?;
     Ok(text)
 }
 
