@@ -5,7 +5,7 @@ ghost use Rattle.statement.specs.Statement.{Kept};
 use agreement::book::FileBook;
 use declared::file;
 use declared::file::Declared;
-use declared::lines::{DeclaredLine, DetailLine};
+use declared::lines::DetailLine;
 use desk::refusals::explain;
 use detraf::amounts::Amounts;
 use detraf::line::LINE_WIDTH;
@@ -110,11 +110,9 @@ fn print_lines(
     book: &FileBook,
     file: Declared<'_>,
 ) -> anyhow::Result<()> {
-    for i in 0..file.detail_count() {
-        if let Some(DeclaredLine::Detail(line)) = file.line(i) {
-            let verdict = judge(terms, reference, book, line);
-            print_line(rt, i.saturating_add(1), line, verdict, terms)?;
-        }
+    for (i, line) in file.details().enumerate() {
+        let verdict = judge(terms, reference, book, line);
+        print_line(rt, i.saturating_add(1), line, verdict, terms)?;
     }
     Ok(())
 }

@@ -40,6 +40,11 @@ pub malformed_either : (first line : List ℕ) (xs ys : List FieldForm) (o r : O
 malformed_either first line xs ys None r e f g = f refl ∙ malformed_next first line xs ys e
 malformed_either first line xs ys (Some n) r e f g = g n refl ∙ malformed_first first line xs ys n e
 
+-- a fact, and those that come after it
+abbrev pub ◌▸◌ : {A B : Type 0} → A → B → A × B
+◌▸◌ a b = (a, b)
+
+infixr 20 ◌▸◌
 -- every field of a table has its form
 abbrev pub AllSound : List ℕ → List ℕ → List FieldForm → Type 0
 AllSound first line [] = Unit {0}
