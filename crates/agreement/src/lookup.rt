@@ -9,6 +9,7 @@ use crate::parts::{SCENARIO_ROW, TARIFF_ROW};
 use crate::rows::read_scenario;
 use digits::{write_be, write_decimal};
 use values::calendar::Day;
+use values::decimal::Decimal;
 use values::labels::{Descriptor, Point};
 use values::rates::{Scenario, Tariff};
 

@@ -6,6 +6,7 @@ ghost use Rattle.agreement.specs.RowFields.{carrier_in, rates_in, terms_in, scen
 use crate::parts::Part;
 use digits::read_decimal;
 use values::calendar::Day;
+use values::decimal::Decimal;
 use values::labels::{Descriptor, Point};
 use values::rates::{Scenario, Tariff, TaxRates};
 use values::terms::{Carrier, Terms};

@@ -13,6 +13,7 @@ use digits::read_decimal;
 use faults::{Charged, RecordFault, charge_to, malformed};
 use fields::Field;
 use values::calendar::{Day, Duration, TimeOfDay};
+use values::decimal::Decimal;
 use values::labels::{Descriptor, Point};
 
 // The bytes of a record.

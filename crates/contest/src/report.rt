@@ -5,9 +5,10 @@ ghost use Rattle.statement.specs.Statement.{Kept};
 use agreement::book::FileBook;
 use declared::file;
 use declared::file::Declared;
-use declared::lines::{DeclaredLine, DetailLine};
+use declared::lines::DetailLine;
 use desk::refusals::explain;
 use detraf::amounts::Amounts;
+use detraf::line::LINE_WIDTH;
 use ledger::day::DayRow;
 use ledger::line::LineRow;
 use ledger::store::RowStore;
@@ -22,8 +23,6 @@ use verdicts::faults::ContestFault;
 use verdicts::judging::judge;
 use verdicts::months::{MonthContest, contest_month};
 use verdicts::verdict::Verdict;
-
-const LINE_WIDTH: usize = 129;
 
 // How many months before the reference month, the earliest first.
 const BACK: [u8; 3] = [2, 1, 0];
@@ -111,11 +110,9 @@ fn print_lines(
     book: &FileBook,
     file: Declared<'_>,
 ) -> anyhow::Result<()> {
-    for i in 0..file.detail_count() {
-        if let Some(DeclaredLine::Detail(line)) = file.line(i) {
-            let verdict = judge(terms, reference, book, line);
-            print_line(rt, i.saturating_add(1), line, verdict, terms)?;
-        }
+    for (i, line) in file.details().enumerate() {
+        let verdict = judge(terms, reference, book, line);
+        print_line(rt, i.saturating_add(1), line, verdict, terms)?;
     }
     Ok(())
 }

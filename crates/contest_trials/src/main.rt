@@ -65,6 +65,7 @@ fn show_fault(rt: &HostRuntime, fault: ContestFault) -> anyhow::Result<()> {
     match fault.place() {
         Some(Place::Length(length)) => println!(rt; "refused {number} {length}")?,
         Some(Place::Field { line, field }) => println!(rt; "refused {number} {line} {field}")?,
+        Some(Place::Line { line }) => println!(rt; "refused {number} {line} 0")?,
         None => println!(rt; "refused {number}")?,
     }
     Ok(())

@@ -1,51 +1,26 @@
--- One turn of the loops that judge a field or a line.
-use Rattle.std.proofs.Common.{◌≡◌, ℕ, ◌+◌, ◌<◌, ◌≤◌, Bool, true, false, cond, ◌&&◌, eqb, List, [], ◌∷◌, ◌++◌, length, get_or, drop, Some, None, Option, sym, refl, ap, ◌∙◌, ⊎_elim, arith}
-use Rattle.std.proofs.lemmas.List.{at_drop_more, at_drop_all}
-use Rattle.std.proofs.lemmas.Bool.{cond-true, cond-false, eq-eqb, ne_eqb, and_parts, cases_Bool}
-use Rattle.declared.specs.Forms.{all_are, is_sound, first_malformed, is_within, all_within}
+-- Searching a table of fields for the first that has not its form.
+use Rattle.std.proofs.Common.{◌≡◌, ℕ, zero, suc, ◌<◌, true, false, not, cond, List, [], ◌∷◌, ◌++◌, length, get_or, Some, None, Option, sym, refl, ◌∙◌, ⊎_elim, arith}
+use Rattle.std.specs.List.{find}
+use Rattle.std.specs.Option.{option_map}
+use Rattle.std.proofs.lemmas.Bool.{cond-true, cond-false, and_parts, cases_Bool}
+use Rattle.declared.specs.Forms.{is_sound, first_malformed, is_within, all_within}
 use Rattle.declared.specs.declared.forms.FieldForm.{FieldForm}
 
-module _ (b i : ℕ) (cs : List ℕ) (t : Bool) where
-  filled_turn : i < length cs → all_are b (drop i cs) ≡ t → (eqb (get_or cs i 0) b && all_are b (drop (i + 1) cs)) ≡ t
-  filled_turn h e = sym (at_drop_more (all_are b) cs i 0 h) ∙ e
+-- every field of a table lies in a line
+pub within_at : (fs : List FieldForm) (k : ℕ) (f : FieldForm) → all_within fs ≡ true → k < length fs → f ≡ get_or fs k f → is_within f ≡ true
+within_at [] k f e h p = absurd (omega arith)
+within_at (g ∷ fs) zero f e h p = rw p (and_parts (is_within g) (all_within fs) e).0
+within_at (g ∷ fs) (suc k) f e h p = within_at fs k f (and_parts (is_within g) (all_within fs) e).1 (omega arith) p
 
-  pub filled_more : i < length cs → all_are b (drop i cs) ≡ t → get_or cs i 0 ≡ b → all_are b (drop (i + 1) cs) ≡ t
-  filled_more h e k = sym (ap (λ x. x && all_are b (drop (i + 1) cs)) (eq-eqb (get_or cs i 0) b k)) ∙ filled_turn h e
-
-  pub filled_stops : i < length cs → all_are b (drop i cs) ≡ t → (get_or cs i 0 ≡ b → ⊥) → false ≡ t
-  filled_stops h e k = sym (ap (λ x. x && all_are b (drop (i + 1) cs)) (ne_eqb (get_or cs i 0) b k)) ∙ filled_turn h e
-
-  pub filled_all : length cs ≤ i → all_are b (drop i cs) ≡ t → true ≡ t
-  filled_all h e = sym (at_drop_all (all_are b) cs i h) ∙ e
-
--- every field of the table lies in a line
-module _ (fs : List FieldForm) (i : ℕ) (d : FieldForm) (h : i < length fs) (e : all_within (drop i fs) ≡ true) where
-  within_turn : (is_within (get_or fs i d) ≡ true) × (all_within (drop (i + 1) fs) ≡ true)
-  within_turn = and_parts (is_within (get_or fs i d)) (all_within (drop (i + 1) fs)) (sym (at_drop_more all_within fs i d h) ∙ e)
-
-  pub within_here : is_within (get_or fs i d) ≡ true
-  within_here = within_turn.0
-
-  pub within_more : all_within (drop (i + 1) fs) ≡ true
-  within_more = within_turn.1
-
--- a search for the first malformed field
-module _ (first line : List ℕ) (fs : List FieldForm) (i : ℕ) (d : FieldForm) (t : Option ℕ) (s : first_malformed first line (drop i fs) ≡ t) where
-  module _ (h : i < length fs) where
-    turn : cond (is_sound first line (get_or fs i d)) (first_malformed first line (drop (i + 1) fs)) (Some (get_or fs i d).number) ≡ t
-    turn = sym (at_drop_more (first_malformed first line) fs i d h) ∙ s
-
-    pub sound_field : true ≡ is_sound first line (get_or fs i d) → first_malformed first line (drop (i + 1) fs) ≡ t
-    sound_field e = sym (cond-true _ (first_malformed first line (drop (i + 1) fs)) (Some (get_or fs i d).number) (sym e)) ∙ turn
-
-    pub malformed_field : false ≡ is_sound first line (get_or fs i d) → Some (get_or fs i d).number ≡ t
-    malformed_field e = sym (cond-false _ (first_malformed first line (drop (i + 1) fs)) (Some (get_or fs i d).number) (sym e)) ∙ turn
-
-  pub sound_fields : length fs ≤ i → None ≡ t
-  sound_fields h = sym (at_drop_all (first_malformed first line) fs i h) ∙ s
+-- the first field that has not its form
+pub find_malformed : (first line : List ℕ) (fs : List FieldForm) → option_map (λ f. f.number) (find (λ f. not (is_sound first line f)) fs) ≡ first_malformed first line fs
+find_malformed first line [] = refl
+find_malformed first line (f ∷ fs) =
+    elim (is_sound first line f) as (λ b. option_map (λ f. f.number) (cond (not b) (Some f) (find (λ f. not (is_sound first line f)) fs)) ≡ cond b (first_malformed first line fs) (Some f.number))
+    [ true ↦ find_malformed first line fs | false ↦ refl ]
 
 -- one table after another
-pub malformed_first : (first line : List ℕ) (xs ys : List FieldForm) (n : ℕ) → Some n ≡ first_malformed first line xs → Some n ≡ first_malformed first line (xs ++ ys)
+malformed_first : (first line : List ℕ) (xs ys : List FieldForm) (n : ℕ) → Some n ≡ first_malformed first line xs → Some n ≡ first_malformed first line (xs ++ ys)
 malformed_first first line [] ys n e = absurd (let z : ◌≡◌ {A = ℕ} 0 1 = cc in omega arith)
 malformed_first first line (x ∷ xs) ys n e =
     ⊎_elim
@@ -53,7 +28,7 @@ malformed_first first line (x ∷ xs) ys n e =
     (λ t. e ∙ (cond-false _ (first_malformed first line xs) (Some x.number) t ∙ sym (cond-false _ (first_malformed first line (xs ++ ys)) (Some x.number) t)))
     (cases_Bool (is_sound first line x))
 
-pub malformed_next : (first line : List ℕ) (xs ys : List FieldForm) → None ≡ first_malformed first line xs → first_malformed first line ys ≡ first_malformed first line (xs ++ ys)
+malformed_next : (first line : List ℕ) (xs ys : List FieldForm) → None ≡ first_malformed first line xs → first_malformed first line ys ≡ first_malformed first line (xs ++ ys)
 malformed_next first line [] ys e = refl
 malformed_next first line (x ∷ xs) ys e =
     ⊎_elim
@@ -61,6 +36,15 @@ malformed_next first line (x ∷ xs) ys e =
     (λ t. absurd (let w : None ≡ Some x.number = e ∙ cond-false _ (first_malformed first line xs) (Some x.number) t in let z : ◌≡◌ {A = ℕ} 0 1 = cc in omega arith))
     (cases_Bool (is_sound first line x))
 
+pub malformed_either : (first line : List ℕ) (xs ys : List FieldForm) (o r : Option ℕ) → o ≡ first_malformed first line xs → (o ≡ None → r ≡ first_malformed first line ys) → ((n : ℕ) → o ≡ Some n → r ≡ Some n) → r ≡ first_malformed first line (xs ++ ys)
+malformed_either first line xs ys None r e f g = f refl ∙ malformed_next first line xs ys e
+malformed_either first line xs ys (Some n) r e f g = g n refl ∙ malformed_first first line xs ys n e
+
+-- a fact, and those that come after it
+abbrev pub ◌▸◌ : {A B : Type 0} → A → B → A × B
+◌▸◌ a b = (a, b)
+
+infixr 20 ◌▸◌
 -- every field of a table has its form
 abbrev pub AllSound : List ℕ → List ℕ → List FieldForm → Type 0
 AllSound first line [] = Unit {0}

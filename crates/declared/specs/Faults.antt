@@ -9,8 +9,7 @@ fault_number (Length n) = 18
 fault_number (Malformed line field) = 19
 fault_number (Unsound line) = 20
 
--- field 0 is the whole line
 abbrev pub fault_place : ReadFault → Place
 fault_place (Length n) = Place.Length n
 fault_place (Malformed line field) = Place.Field line field
-fault_place (Unsound line) = Place.Field line 0
+fault_place (Unsound line) = Place.Line line

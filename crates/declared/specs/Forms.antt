@@ -1,9 +1,9 @@
 -- The form that each field of a line must have. Columns count from 1.
-use Rattle.std.specs.Prelude.{ℕ, Bool, true, cond, ◌&&◌, List, [], ◌∷◌, ◌++◌, length, is_some, Some, None, Option, ◌==◌, nat_eq, nat_le, slice_index}
+use Rattle.std.specs.Prelude.{ℕ, Bool, true, cond, ◌&&◌, List, [], ◌∷◌, ◌++◌, length, is_some, Some, None, Option, ◌==◌, nat_le, slice_index}
+use Rattle.std.specs.List.{list_all}
 use Rattle.std.specs.Str.{bytes_eq}
 use Rattle.digits.specs.Positional.{numeral}
 use Rattle.values.specs.Checked.{numbered}
-use Rattle.values.specs.Text.{all_pass}
 use Rattle.values.specs.Values.{carrier_of, month_in, point_in, descriptor_in}
 use Rattle.detraf.specs.Columns.{columns}
 use Rattle.declared.specs.declared.forms.FieldForm.{FieldForm}
@@ -12,7 +12,7 @@ use Rattle.declared.specs.declared.forms.Form.TheVariants.{Code, Month, Point, D
 
 -- every byte is this one
 abbrev pub all_are : ℕ → List ℕ → Bool
-all_are b cs = all_pass (λ c. nat_eq c b) cs
+all_are b cs = list_all (λ c. c == b) cs
 
 -- whether the bytes of a field have the form, in a file with this first line
 abbrev pub holds : Form → List ℕ → List ℕ → Bool

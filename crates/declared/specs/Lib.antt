@@ -1,3 +1,4 @@
+pub mod Details
 pub mod Faults
 pub mod File
 pub mod Forms

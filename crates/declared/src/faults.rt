@@ -2,11 +2,12 @@
 ghost use Rattle.std.specs.Prelude.{◌≡◌};
 ghost use Rattle.declared.specs.Faults.{fault_number, fault_place};
 
-// Where a refusal lies: in the length, or in a field of a line, counted from 1; field 0 is the whole line.
+// Where a refusal lies: in the length, in a field of a line, or in a whole line. Lines and fields count from 1.
 #[derive(Clone, Copy, PartialEq, Eq, Debug)]
 pub enum Place {
     Length(usize),
     Field { line: usize, field: u8 },
+    Line { line: usize },
 }
 
 // The reader's faults.
@@ -37,7 +38,7 @@ impl ReadFault {
         match self {
             ReadFault::Length(length) => Place::Length(length),
             ReadFault::Malformed { line, field } => Place::Field { line, field },
-            ReadFault::Unsound { line } => Place::Field { line, field: 0 },
+            ReadFault::Unsound { line } => Place::Line { line },
         }
     }
 }

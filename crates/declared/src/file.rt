@@ -1,18 +1,21 @@
 // A declared file.
-ghost use Rattle.std.specs.Prelude.{◌≡◌};
+ghost use Rattle.std.specs.Prelude.{◌≡◌, ◌<◌, ◌^◌, length};
+ghost use Rattle.declared.specs.Details.{details, details_left};
 ghost use Rattle.declared.specs.File.{read_file, seen_read, seen_file, line_of, detail_count};
 ghost use Rattle.declared.specs.Lines.{seen_option};
 ghost use Rattle.declared.specs.RoundTrips.{WritesBack, ReadsBack};
 
-use crate::checks::{check_fields, check_length, check_lines, line_at, line_count};
+use crate::checks::{check_fields, check_length, check_lines};
 use crate::columns::{read_head, read_line};
+use crate::details::Details;
 use crate::faults::ReadFault;
-use crate::lines::{DeclaredLine, Head};
+use crate::lines::{DeclaredLine, Head, LineBytes};
+use detraf::line::LINE_WIDTH;
 
 // A file that was accepted.
-#[derive(Clone, Copy)]
+#[derive(Clone, Copy, PartialEq, Eq, Debug)]
 pub struct Declared<'a> {
-    bytes: &'a [u8],
+    lines: &'a [LineBytes],
     head: Head,
 }
 
@@ -23,10 +26,11 @@ pub fn read(bytes: &[u8]) -> Result<Declared<'_>, ReadFault>
     ensures reads { ReadsBack }
 {
     check_length(bytes.len())?;
-    check_fields(bytes)?;
-    check_lines(bytes)?;
-    let head = read_head(line_at(bytes, 0));
-    Ok(Declared { bytes, head })
+    let (lines, _) = bytes.as_chunks::<LINE_WIDTH>();
+    check_fields(lines)?;
+    check_lines(lines)?;
+    let head = read_head(&lines[0]);
+    Ok(Declared { lines, head })
 }
 
 impl<'a> Declared<'a> {
@@ -41,17 +45,23 @@ impl<'a> Declared<'a> {
     pub fn detail_count(self) -> usize
         ensures { result ≡ detail_count (seen_file self.entry) }
     {
-        line_count(self.bytes).saturating_sub(1)
+        self.lines.len().saturating_sub(1)
+    }
+
+    // The detail lines, in the order of the file.
+    pub fn details(self) -> Details<'a>
+        ensures value { details_left result ≡ details (seen_file self.entry) }
+        ensures bound { length (details_left result) < 2 ^ 64 }
+    {
+        Details {
+            rest: &self.lines[..self.detail_count()],
+        }
     }
 
     // The line at index i, or none past the end.
     pub fn line(self, i: usize) -> Option<DeclaredLine<'a>>
         ensures { seen_option result ≡ line_of (seen_file self.entry) i }
     {
-        if i < line_count(self.bytes) {
-            Some(read_line(line_at(self.bytes, i)))
-        } else {
-            None
-        }
+        self.lines.get(i).map(|line| read_line(line))
     }
 }

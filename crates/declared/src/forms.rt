@@ -1,15 +1,16 @@
 // The form that each field of a line must have.
-ghost use Rattle.std.specs.Prelude.{◌≡◌, true, length};
-ghost use Rattle.declared.specs.Forms.{field, holds, is_sound, is_within, all_within, first_malformed, head_forms, detail_forms, total_forms, body_forms, is_total, line_fault};
+ghost use Rattle.std.specs.Prelude.{◌≡◌, true};
+ghost use Rattle.declared.specs.Forms.{all_are, field, holds, is_sound, is_within, all_within, first_malformed, head_forms, detail_forms, total_forms, body_forms, is_total, line_fault};
 
-use crate::bytes::{is_filled, is_same};
+use crate::lines::LineBytes;
 use digits::read_decimal;
 use values::calendar::Month;
+use values::decimal::Decimal;
 use values::labels::{Descriptor, Point};
 use values::terms::Carrier;
 
 // What a field must be.
-#[derive(Clone, Copy)]
+#[derive(Clone, Copy, PartialEq, Eq, Debug)]
 pub enum Form {
     // A carrier's code, 001 to 999.
     Code,
@@ -26,7 +27,7 @@ pub enum Form {
 }
 
 // A field by its number and its columns, from 1.
-#[derive(Clone, Copy)]
+#[derive(Clone, Copy, PartialEq, Eq, Debug)]
 pub struct FieldForm {
     pub number: u8,
     pub first: usize,
@@ -38,16 +39,19 @@ pub struct FieldForm {
 fn is_code(bytes: &[u8]) -> bool
     ensures { result ≡ holds Form.Code bytes.now bytes.now }
 {
-    match read_decimal(bytes, 3) {
-        Some(code) => Carrier::new(code as u32).is_some(),
-        None => false,
-    }
+    read_decimal(bytes, 3).is_some_and(|code| Carrier::new(code as u32).is_some())
+}
+
+// Whether every byte is this one.
+fn is_filled(bytes: &[u8], byte: u8) -> bool
+    ensures { result ≡ all_are byte bytes.now }
+{
+    bytes.iter().all(|b| *b == byte)
 }
 
 impl Form {
     // Whether a field has this form, in a file with this first line.
-    fn holds(self, heading: &[u8], field: &[u8]) -> bool
-        requires { length heading.now ≡ 129 }
+    fn holds(self, heading: &LineBytes, field: &[u8]) -> bool
         ensures { result ≡ holds self heading.now field.now }
     {
         match self {
@@ -57,9 +61,9 @@ impl Form {
             Form::Descriptor => Descriptor::read(field).is_some(),
             Form::Digits => read_decimal(field, field.len()).is_some(),
             Form::Filled(byte) => is_filled(field, byte),
-            Form::Creditor => is_same(field, &heading[0..3]),
-            Form::Debtor => is_same(field, &heading[3..6]),
-            Form::Reference => is_same(field, &heading[6..12]),
+            Form::Creditor => field == &heading[0..3],
+            Form::Debtor => field == &heading[3..6],
+            Form::Reference => field == &heading[6..12],
         }
     }
 }
@@ -77,10 +81,8 @@ impl FieldForm {
     }
 
     // Whether a line has its form in these columns.
-    fn is_sound(self, heading: &[u8], line: &[u8]) -> bool
-        requires within { is_within self ≡ true }
-        requires heading { length heading.now ≡ 129 }
-        requires line { length line.now ≡ 129 }
+    fn is_sound(self, heading: &LineBytes, line: &LineBytes) -> bool
+        requires { is_within self ≡ true }
         ensures { result ≡ is_sound heading.now line.now self }
     {
         let start = self.first - 1;
@@ -90,18 +92,12 @@ impl FieldForm {
 }
 
 // The number of the first field that has not its form.
-fn first_malformed(forms: &[FieldForm], heading: &[u8], line: &[u8]) -> Option<u8>
-    requires forms { all_within forms.now ≡ true }
-    requires heading { length heading.now ≡ 129 }
-    requires line { length line.now ≡ 129 }
+fn first_malformed(forms: &[FieldForm], heading: &LineBytes, line: &LineBytes) -> Option<u8>
+    requires { all_within forms.now ≡ true }
     ensures { result ≡ first_malformed heading.now line.now forms.now }
 {
-    for field in forms {
-        if !field.is_sound(heading, line) {
-            return Some(field.number);
-        }
-    }
-    None
+    let malformed = forms.iter().find(|field| !field.is_sound(heading, line));
+    malformed.map(|field| field.number)
 }
 
 // The parties and the reference month.
@@ -165,17 +161,14 @@ fn total_forms() -> [FieldForm; 12]
 }
 
 // Whether the type of a line is 01.
-pub fn is_total(line: &[u8]) -> bool
-    requires { length line.now ≡ 129 }
+pub fn is_total(line: &LineBytes) -> bool
     ensures { result ≡ is_total line.now }
 {
     line[28] == b'0' && line[29] == b'1'
 }
 
 // The number of the first malformed field of a line after the first three.
-fn body_fault(heading: &[u8], line: &[u8]) -> Option<u8>
-    requires heading { length heading.now ≡ 129 }
-    requires line { length line.now ≡ 129 }
+fn body_fault(heading: &LineBytes, line: &LineBytes) -> Option<u8>
     ensures { result ≡ first_malformed heading.now line.now (body_forms line.now) }
 {
     if is_total(line) {
@@ -186,13 +179,8 @@ fn body_fault(heading: &[u8], line: &[u8]) -> Option<u8>
 }
 
 // The number of the first malformed field of a line.
-pub fn line_fault(is_first: bool, heading: &[u8], line: &[u8]) -> Option<u8>
-    requires heading { length heading.now ≡ 129 }
-    requires line { length line.now ≡ 129 }
+pub fn line_fault(is_first: bool, heading: &LineBytes, line: &LineBytes) -> Option<u8>
     ensures { result ≡ line_fault is_first heading.now line.now }
 {
-    match first_malformed(&head_forms(is_first), heading, line) {
-        Some(field) => Some(field),
-        None => body_fault(heading, line),
-    }
+    first_malformed(&head_forms(is_first), heading, line).or_else(|| body_fault(heading, line))
 }

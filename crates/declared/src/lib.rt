@@ -1,9 +1,9 @@
 // The reader of declared DETRAF files, and the writer of their lines.
 #![tactic(auto)]
 
-mod bytes;
 mod checks;
 mod columns;
+pub mod details;
 pub mod faults;
 pub mod file;
 mod forms;

@@ -1,8 +1,7 @@
 // Why a DETRAF file is refused, in words, with the place and the bytes at fault.
 use declared::faults::{Place, ReadFault};
+use detraf::line::LINE_WIDTH;
 use std::fmt::Write;
-
-const LINE_WIDTH: usize = 129;
 
 // The name and the columns of each field, from 1.
 const FIELDS: [(&str, usize, usize); 16] = [
@@ -55,7 +54,19 @@ fn columns(bytes: &[u8], line: usize, first: usize, last: usize) -> &[u8] {
         .unwrap_or(&[])
 }
 
-// A fault of a field, or of a whole line where the field is 0.
+// A fault of a whole line, which is printed as field 0.
+fn at_line(
+    rt: &HostRuntime,
+    bytes: &[u8],
+    number: u8,
+    why: &str,
+    line: usize,
+) -> anyhow::Result<String> {
+    let shown = show(rt, columns(bytes, line, 1, 128))?;
+    Ok(format!(in rt.alloc(); "refused: {number}, line {line}, field 0 ({why}): {shown}")?)
+}
+
+// A fault of a field.
 fn at_field(
     rt: &HostRuntime,
     bytes: &[u8],
@@ -66,10 +77,7 @@ fn at_field(
 ) -> anyhow::Result<String> {
     // field 0 wraps past the end of the table
     let Some((name, first, last)) = FIELDS.get(usize::from(field).wrapping_sub(1)) else {
-        let shown = show(rt, columns(bytes, line, 1, 128))?;
-        return Ok(format!(in rt.alloc();
-            "refused: {number}, line {line}, field 0 ({why}): {shown}"
-        )?);
+        return at_line(rt, bytes, number, why, line);
     };
     let shown = show(rt, columns(bytes, line, *first, *last))?;
     Ok(format!(in rt.alloc();
@@ -86,5 +94,6 @@ pub fn explain(rt: &HostRuntime, bytes: &[u8], fault: ReadFault) -> anyhow::Resu
             Ok(format!(in rt.alloc(); "refused: {number}, length {length} ({why})")?)
         }
         Place::Field { line, field } => at_field(rt, bytes, number, why, line, field),
+        Place::Line { line } => at_line(rt, bytes, number, why, line),
     }
 }

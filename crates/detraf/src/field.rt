@@ -5,7 +5,7 @@ ghost use Rattle.detraf.specs.Fields.{field_width, field_bytes, fields_bytes, wr
 use digits::{write_be, write_decimal};
 
 // A field's width and what it shows.
-#[derive(Clone, Copy)]
+#[derive(Clone, Copy, PartialEq, Eq, Debug)]
 pub enum Field {
     // A decimal number with leading zeros.
     Number(usize, u64),

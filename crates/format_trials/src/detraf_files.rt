@@ -76,6 +76,7 @@ pub fn read(rt: &HostRuntime, bytes: &[u8]) -> anyhow::Result<()> {
             match fault.place() {
                 Place::Length(length) => println!(rt; "refused {number} {length}")?,
                 Place::Field { line, field } => println!(rt; "refused {number} {line} {field}")?,
+                Place::Line { line } => println!(rt; "refused {number} {line} 0")?,
             }
             Ok(())
         }

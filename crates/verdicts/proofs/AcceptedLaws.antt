@@ -10,7 +10,7 @@ use Rattle.declared.specs.Lines.{Line, detail, total}
 use Rattle.declared.specs.declared.lines.Head.{Head}
 use Rattle.declared.proofs.ReadLaws.{was_accepted}
 use Rattle.verdicts.specs.Contests.{admitted, admits, counted, filled, verdict_bytes, contest_answer, contest_after}
-use Rattle.verdicts.specs.Details.{details_in, details}
+use Rattle.declared.specs.Details.{details_in, details}
 use Rattle.verdicts.specs.declared.faults.ContestFault.{ContestFault}
 
 err_not_ok : {A E : Type 0} {x : A} {f : E} → ◌≡◌ {A = Result A E} (Err f) (Ok x) → ⊥

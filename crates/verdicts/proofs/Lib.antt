@@ -1,5 +1,4 @@
 pub mod AcceptedLaws
-pub mod ContestLaws
 pub mod JudgeLaws
 pub mod MonthLaws
 pub mod SumLaws

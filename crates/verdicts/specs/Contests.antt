@@ -1,5 +1,5 @@
 -- What a contest answers, and the verdicts that it leaves in the buffer.
-use Rattle.std.specs.Prelude.{ℕ, Bool, cond, ◌&&◌, List, ◌++◌, map, length, drop, Some, None, Ok, Err, Option, Result, ◌==◌, nat_le}
+use Rattle.std.specs.Prelude.{ℕ, Bool, cond, ◌&&◌, List, ◌++◌, map, length, drop, Ok, Err, Result, ◌==◌, nat_le}
 use Rattle.values.specs.declared.calendar.Month.{Month}
 use Rattle.values.specs.declared.terms.Terms.{Terms}
 use Rattle.rating.specs.Rating.{Book}
@@ -7,7 +7,7 @@ use Rattle.declared.specs.File.{File}
 use Rattle.declared.specs.Lines.{Detail}
 use Rattle.declared.specs.declared.faults.ReadFault.{ReadFault}
 use Rattle.declared.specs.declared.lines.Head.{Head}
-use Rattle.verdicts.specs.Details.{details}
+use Rattle.declared.specs.Details.{details}
 use Rattle.verdicts.specs.Verdicts.{verdict_of, verdict_code}
 use Rattle.verdicts.specs.declared.faults.ContestFault.{ContestFault}
 use Rattle.verdicts.specs.declared.faults.ContestFault.TheVariants.{Read, Unlike, Short}
@@ -32,11 +32,6 @@ verdict_byte book terms reference line = verdict_code (verdict_of book terms ref
 
 abbrev pub verdict_bytes : Book → Terms → Month → File → List ℕ
 verdict_bytes book terms reference file = map (verdict_byte book terms reference) (details file)
-
--- the same where there may be no line
-abbrev pub byte_of : Book → Terms → Month → Option Detail → ℕ
-byte_of book terms reference None = 0
-byte_of book terms reference (Some line) = verdict_byte book terms reference line
 
 abbrev pub admits : Terms → Month → File → List ℕ → Result (Unit {0}) ContestFault
 admits terms reference file out = admitted terms reference file.head (length (details file)) (length out)

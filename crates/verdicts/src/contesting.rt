@@ -1,13 +1,12 @@
 // A declared file contested line by line.
 ghost use Rattle.std.specs.Prelude.{◌≡◌, ◌≤◌, length, OnOk};
-ghost use Rattle.declared.specs.File.{read_file, seen_file, line_of, detail_count};
+ghost use Rattle.declared.specs.Details.{details};
+ghost use Rattle.declared.specs.File.{read_file, seen_file};
 ghost use Rattle.detraf.specs.Fields.{written};
 ghost use Rattle.rating.specs.Rating.{book_of};
 ghost use Rattle.statement.specs.Statement.{model};
-ghost use Rattle.verdicts.specs.Contests.{is_like, admitted, byte_of, verdict_bytes, contest_answer, contest_after};
-ghost use Rattle.verdicts.specs.Details.{details, detail_at};
+ghost use Rattle.verdicts.specs.Contests.{is_like, admitted, verdict_bytes, contest_answer, contest_after};
 
-use crate::details::detail_at;
 use crate::faults::ContestFault;
 use crate::judging::judge;
 use declared::file::{Declared, read};
@@ -24,9 +23,12 @@ use values::terms::Terms;
 fn is_like(terms: Terms, reference: Month, head: Head) -> bool
     ensures { result ≡ is_like terms reference head }
 {
-    head.creditor == terms.creditor().code()
-        && head.debtor == terms.debtor().code()
-        && head.reference == reference.number()
+    let own = Head {
+        creditor: terms.creditor().code(),
+        debtor: terms.debtor().code(),
+        reference: reference.number(),
+    };
+    head == own
 }
 
 // Refuses a file of other parties or another month, and a buffer of less than so many bytes.
@@ -49,22 +51,6 @@ fn admit(
     Ok(())
 }
 
-// The verdict of the detail line at index i, and 0 where there is none.
-fn verdict_at<B: TariffBook>(
-    terms: Terms,
-    reference: Month,
-    book: &B,
-    file: Declared<'_>,
-    i: usize,
-) -> u8
-    ensures { result ≡ byte_of (book_of B.TariffBook book.now) terms reference (detail_at (line_of (seen_file file.entry) i)) }
-{
-    match detail_at(file, i) {
-        Some(line) => judge(terms, reference, book, line).code(),
-        None => 0,
-    }
-}
-
 // Writes the verdicts of the detail lines, in the order of the lines, from the buffer's start.
 fn write_verdicts<B: TariffBook>(
     terms: Terms,
@@ -73,12 +59,11 @@ fn write_verdicts<B: TariffBook>(
     file: Declared<'_>,
     out: &mut [u8],
 )
-    requires lines { length (details (seen_file file)) ≡ detail_count (seen_file file) }
-    requires room { detail_count (seen_file file) ≤ length out.old }
+    requires { length (details (seen_file file)) ≤ length out.old }
     ensures { out.new ≡ written 0 (verdict_bytes (book_of B.TariffBook book.now) terms reference (seen_file file.entry)) out.old }
 {
-    for i in 0..file.detail_count() {
-        out[i] = verdict_at(terms, reference, book, file, i);
+    for (i, line) in file.details().enumerate() {
+        out[i] = judge(terms, reference, book, line).code();
     }
 }
 

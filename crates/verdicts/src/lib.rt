@@ -2,7 +2,6 @@
 #![tactic(auto)]
 
 pub mod contesting;
-mod details;
 pub mod faults;
 pub mod judging;
 pub mod months;

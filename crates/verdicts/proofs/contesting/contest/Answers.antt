@@ -1,4 +1,4 @@
-use Rattle.std.proofs.Common.{◌≤◌, length, subst}
+use Rattle.std.proofs.Common.{arith}
 use Rattle.std.proofs.lemmas.Result.{err_from_is_err_and}
 use Rattle.declared.specs.File.{seen_file}
 use Rattle.rating.specs.Rating.{book_of}
@@ -16,10 +16,9 @@ returns-in_err-admit g c =
 
 pub write_verdicts-requires : goal.write_verdicts-requires
 write_verdicts-requires g c =
-    record {
-      lines = file_details c.args.bytes.now (seen_file c.in_ok-file.file) c.in_ok-file.ensures.value;
-      room = subst (λ n. n ≤ length c.args.out.now) c.detail_count-count.ensures c.in_ok-admit.ensures.fits;
-    }
+    let all = file_details c.args.bytes.now (seen_file c.in_ok-file.file) c.in_ok-file.ensures.value in
+    let count = c.detail_count-count.ensures in
+    omega (arith, c.in_ok-admit.ensures.fits)
 
 pub returns : goal.returns
 returns g c =
