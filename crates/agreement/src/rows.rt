@@ -1,7 +1,7 @@
 // What the rows of each part say.
 ghost use Rattle.std.specs.Prelude.{◌≡◌, length};
 ghost use Rattle.agreement.specs.Parts.{row_width};
-ghost use Rattle.agreement.specs.RowFields.{carrier_in, rates_in, terms_in, scenario_in, is_scenario_row, is_tariff_row, is_row};
+ghost use Rattle.agreement.specs.RowFields.{rates_in, terms_in, scenario_in, is_scenario_row, is_tariff_row, is_row};
 
 use crate::parts::Part;
 use digits::read_decimal;
@@ -10,13 +10,6 @@ use values::decimal::Decimal;
 use values::labels::{Descriptor, Point};
 use values::rates::{Scenario, Tariff, TaxRates};
 use values::terms::{Carrier, Terms};
-
-// A carrier by three digits.
-fn read_carrier(bytes: &[u8]) -> Option<Carrier>
-    ensures { result ≡ carrier_in bytes.now }
-{
-    Carrier::new(read_decimal(bytes, 3)? as u32)
-}
 
 // The rates of PIS/COFINS and ICMS, five digits each.
 fn read_rates(bytes: &[u8]) -> Option<TaxRates>
@@ -33,8 +26,8 @@ pub fn read_terms(row: &[u8]) -> Option<Terms>
     requires { length row.now ≡ 17 }
     ensures { result ≡ terms_in row.now }
 {
-    let creditor = read_carrier(&row[0..3])?;
-    let debtor = read_carrier(&row[3..6])?;
+    let creditor = Carrier::read(&row[0..3])?;
+    let debtor = Carrier::read(&row[3..6])?;
     let back = read_decimal(&row[6..7], 1)? as u8;
     let rates = read_rates(&row[7..17])?;
     Terms::new(creditor, debtor, back, rates)

@@ -35,13 +35,6 @@ pub struct FieldForm {
     pub form: Form,
 }
 
-// Whether three digits are a carrier's code.
-fn is_code(bytes: &[u8]) -> bool
-    ensures { result ≡ holds Form.Code bytes.now bytes.now }
-{
-    read_decimal(bytes, 3).is_some_and(|code| Carrier::new(code as u32).is_some())
-}
-
 // Whether every byte is this one.
 fn is_filled(bytes: &[u8], byte: u8) -> bool
     ensures { result ≡ all_are byte bytes.now }
@@ -55,7 +48,7 @@ impl Form {
         ensures { result ≡ holds self heading.now field.now }
     {
         match self {
-            Form::Code => is_code(field),
+            Form::Code => Carrier::read(field).is_some(),
             Form::Month => Month::read(field).is_some(),
             Form::Point => Point::read(field).is_some(),
             Form::Descriptor => Descriptor::read(field).is_some(),
