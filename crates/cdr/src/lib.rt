@@ -31,15 +31,13 @@ fn read_fields(bytes: &[u8; RECORD]) -> Result<CallRecord, Charged<RecordFault>>
     ensures { result ≡ read_fields bytes.now }
 {
     let sequential = read_sequential(&bytes[0..10]).ok_or(malformed(Field::Sequential, 0))?;
-    let day = Day::read(&bytes[31..39]).ok_or(malformed(Field::Date, sequential))?;
-    let time = TimeOfDay::read(&bytes[39..45]).ok_or(malformed(Field::Time, sequential))?;
-    let duration = Duration::read(&bytes[65..72]).ok_or(malformed(Field::Duration, sequential))?;
-    let point = Point::read(&bytes[72..82]).ok_or(malformed(Field::Point, sequential))?;
-    let descriptor = Descriptor::read(&bytes[82..87]).ok_or(malformed(
-        Field::Descriptor,
-        sequential,
-    ))?;
-    read_decimal(&bytes[100..102], 2).ok_or(malformed(Field::Category, sequential))?;
+    let unsound = |field| malformed(field, sequential);
+    let day = Day::read(&bytes[31..39]).ok_or(unsound(Field::Date))?;
+    let time = TimeOfDay::read(&bytes[39..45]).ok_or(unsound(Field::Time))?;
+    let duration = Duration::read(&bytes[65..72]).ok_or(unsound(Field::Duration))?;
+    let point = Point::read(&bytes[72..82]).ok_or(unsound(Field::Point))?;
+    let descriptor = Descriptor::read(&bytes[82..87]).ok_or(unsound(Field::Descriptor))?;
+    read_decimal(&bytes[100..102], 2).ok_or(unsound(Field::Category))?;
     Ok(CallRecord {
         sequential,
         day,
