@@ -31,6 +31,7 @@ impl<T: Keyed, const N: usize> FixedList<T, N> {
     pub fn find(&self, key: T::Key) -> Option<T>
         ensures { result ≡ with_key T.Key.eq T.Keyed.keys key (items_of self.now) }
     {
+        // As `flatten` would, whose proof over options did not close.
         let mut items = self.cells.as_slice().iter().filter_map(|cell| *cell);
         items.find(|item| item.key() == key)
     }
