@@ -7,7 +7,7 @@ use Rattle.cdr.specs.declared.call.CallRecord.{CallRecord}
 use Rattle.cdr.specs.declared.faults.Charged.{Charged}
 use Rattle.cdr.specs.declared.faults.RecordFault.{RecordFault}
 use Rattle.cdr.specs.declared.faults.RecordFault.TheVariants.{Length, Malformed, Category, Selection, Sliced, Cause}
-use Rattle.ledger.specs.Ledger.{takes, placed}
+use Rattle.ledger.specs.Ledger.{Ledger, takes, placed}
 use Rattle.ledger.specs.Rows.{line_keys, day_keys}
 use Rattle.ledger.specs.declared.day.DayRow.{DayRow}
 use Rattle.ledger.specs.declared.line.LineRow.{LineRow}
@@ -22,7 +22,6 @@ use Rattle.statement.specs.declared.faults.StoreFault.TheVariants.{LinesFull, Da
 use Rattle.statement.specs.declared.faults.TakeFault.{TakeFault}
 use Rattle.statement.specs.declared.faults.TakeFault.TheVariants.{Record, Rating, Store}
 use Rattle.statement.specs.declared.posting.Posting.{Posting}
-use Rattle.statement.specs.declared.statement.Statement.{Statement}
 use Rattle.statement.specs.Faults.{store_number, take_number}
 use Rattle.statement.specs.Postings.{posting_of, line_for, day_for, booked_of}
 use Rattle.statement.specs.Statement.{Model, fitted, placing, with_rows, after_placing, counted, with_fault, onward, verdict, take_answer, take_after}
@@ -65,9 +64,9 @@ pub none_put : (m : Model) (l : LineRow) (d : DayRow) (f : StoreFault) → placi
 none_put m l d f e =
     cond-false (takes line_keys l m.lines && takes day_keys d m.days) (with_rows m l d) m (fitted_no (takes line_keys l m.lines) (takes day_keys d m.days) f e)
 
--- a statement with the stores that it had
-pub same_stores : {L D : Type 0} (s : Statement L D) (l : L) (d : D) → l ≡ s.lines → d ≡ s.days → ◌≡◌ {A = Statement L D} (record { terms = s.terms; reference = s.reference; lines = l; days = d; taken = s.taken; board = s.board }) s
-same_stores s l d e f = λ i. record { terms = s.terms; reference = s.reference; lines = e i; days = f i; taken = s.taken; board = s.board }
+-- a model with the ledgers that it had
+pub same_ledgers : (m : Model) (l : Ledger LineRow) (d : Ledger DayRow) → l ≡ m.lines → d ≡ m.days → ◌≡◌ {A = Model} (record { terms = m.terms; reference = m.reference; lines = l; days = d; taken = m.taken; board = m.board }) m
+same_ledgers m l d e f = λ i. record { terms = m.terms; reference = m.reference; lines = e i; days = f i; taken = m.taken; board = m.board }
 
 -- a charged result was the result
 pub charged_ok : {T F : Type 0} (s : ℕ) (r : Result T F) (x : T) → Ok x ≡ charge s r → r ≡ Ok x

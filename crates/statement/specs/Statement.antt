@@ -8,6 +8,7 @@ use Rattle.ledger.specs.declared.day.DayKey.{DayKey}
 use Rattle.ledger.specs.declared.day.DayRow.{DayRow}
 use Rattle.ledger.specs.declared.line.LineKey.{LineKey}
 use Rattle.ledger.specs.declared.line.LineRow.{LineRow}
+use Rattle.ledger.specs.declared.row.Row as Row
 use Rattle.ledger.specs.declared.store.RowStore as RowStore
 use Rattle.rating.specs.Rating.{Book, rated_by}
 use Rattle.values.specs.declared.calendar.Month.{Month}
@@ -34,7 +35,7 @@ pub record Model : Type 0 where
 
 -- what a statement over two stores means, by what the stores mean
 module _ {L D : Type 0} (line_store : RowStore.Ghosts L LineRow LineKey) (day_store : RowStore.Ghosts D DayRow DayKey) where
-  abbrev pub model : Statement L D → Model
+  abbrev pub model : {line_row : Row.Ghosts LineRow LineKey} {day_row : Row.Ghosts DayRow DayKey} → Statement L D line_store line_row day_store day_row → Model
   model s = record {
     terms = s.terms;
     reference = s.reference;

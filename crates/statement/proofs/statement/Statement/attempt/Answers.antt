@@ -22,7 +22,6 @@ returns-in_err-charge_to g c =
     record {
       answer = q.1 ∙ ap Err q.2 ∙ sym (v ∙ ap (λ r. onward Store r (λ _. Ok (posting_of call rated))) (ap (charge call.sequential) (sym put) ∙ sym c.in_err-charge_to.ensures));
       after = c.place.ensures.after ∙ none_put m _ _ _ (sym c.place.ensures.answer ∙ charged_err call.sequential _ _ c.in_err-charge_to.ensures) ∙ sym (ap (with_found m) q.1);
-      kept = c.place.ensures.kept;
     }
 
 pub returns : goal.returns
@@ -38,5 +37,4 @@ returns g c =
     record {
       answer = ap Ok c.new-posting.ensures ∙ sym (v ∙ ap (λ r. onward Store r (λ _. Ok (posting_of call rated))) (ap (charge call.sequential) (sym put) ∙ sym c.in_ok-charge_to.ensures));
       after = c.place.ensures.after ∙ both_put m _ _ (sym c.place.ensures.answer ∙ charged_ok call.sequential _ _ c.in_ok-charge_to.ensures) ∙ ap (λ x. with_rows m x c.day.result) c.line.ensures ∙ ap (with_rows m (line_for c.new-posting.result)) c.day.ensures;
-      kept = c.place.ensures.kept;
     }

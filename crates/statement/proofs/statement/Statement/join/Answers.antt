@@ -19,6 +19,4 @@ returns g c =
       same = tt;
       same_giver = tt;
       reached = λ a d h k. reached_join m given _ _ (Ok tt) answer receiver giver a d h k;
-      kept = c.unite.ensures.kept;
-      kept_giver = c.unite.ensures.kept_giver;
     }

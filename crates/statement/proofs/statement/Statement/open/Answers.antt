@@ -17,10 +17,4 @@ returns g c =
     record {
       model = m;
       reached = reached_opening _ _ _ _ _ m;
-      kept = record {
-        lines = c.clear.ensures.kept;
-        days = c.clear-2.ensures.kept;
-        taken = omega arith;
-        counts = λ i. rw c.new.ensures (clear_counts i);
-      };
     }

@@ -10,7 +10,6 @@ note-requires g c =
     let m = model g.L.RowStore g.D.RowStore c.args.self.now in
     let after = ap (λ x. x.taken) c.in-Err.ensures.after in
     record {
-      kept = c.in-Err.ensures.kept;
       room = omega (arith, c.if-self-ge-MOST_TAKEN.false, after);
       counted = verdict_counted m (book_of g.B.TariffBook c.args.book.now) c.args.bytes.now c.in-Err.fault (sym c.in-Err.ensures.answer);
     }
@@ -19,7 +18,6 @@ pub returns-in-Ok : goal.returns-in-Ok
 returns-in-Ok g c =
     let m = model g.L.RowStore g.D.RowStore c.args.self.now in
     let t = take_booked m (book_of g.B.TariffBook c.args.book.now) c.args.bytes.now c.in-Ok.posting c.if-self-ge-MOST_TAKEN.false c.in-Ok.ensures.answer in
-    let k = c.in-Ok.ensures.kept in
     let after = ap (λ x. x.taken) c.in-Ok.ensures.after in
     let answer = ap Ok c.booked.ensures ∙ sym t.0 in
     let after-take = ap counted c.in-Ok.ensures.after ∙ sym t.1 in
@@ -27,12 +25,6 @@ returns-in-Ok g c =
       answer = answer;
       after = after-take;
       reached = reached_take m _ _ _ _ answer after-take;
-      kept = record {
-        lines = k.lines;
-        days = k.days;
-        taken = omega (arith, c.if-self-ge-MOST_TAKEN.false, after);
-        counts = λ i. omega (arith, k.counts i);
-      };
     }
 
 pub returns-in-Err : goal.returns-in-Err
@@ -44,5 +36,4 @@ returns-in-Err g c =
       answer = sym t.0;
       after = after-take;
       reached = reached_take m _ _ _ _ (sym t.0) after-take;
-      kept = c.note.ensures.kept;
     }

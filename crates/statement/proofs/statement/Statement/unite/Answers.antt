@@ -9,8 +9,8 @@ pub returns : goal.returns
 returns g c =
     let r = c.args.self.now in
     let given = c.args.giver.now in
-    let lines = poured_fits line_keys line_order join_lines line_joins (g.L.RowStore.ledger r.lines) (g.M.RowStore.ledger given.lines).rows c.requires.receiver.lines.rising c.requires.lines in
-    let days = poured_fits day_keys day_order join_days day_joins (g.D.RowStore.ledger r.days) (g.E.RowStore.ledger given.days).rows c.requires.receiver.days.rising c.requires.days in
+    let lines = poured_fits line_keys line_order join_lines line_joins (g.L.RowStore.ledger r.lines) (g.M.RowStore.ledger given.lines).rows r.kept.lines.rising c.requires.lines in
+    let days = poured_fits day_keys day_order join_days day_joins (g.D.RowStore.ledger r.days) (g.E.RowStore.ledger given.days).rows r.kept.days.rising c.requires.days in
     record {
       receiver = λ i. record {
         terms = r.terms;
@@ -27,17 +27,5 @@ returns g c =
         days = c.pour-2.ensures.cleared i;
         taken = 0;
         board = c.new-giver.ensures i;
-      };
-      kept = record {
-        lines = c.pour.ensures.receiver;
-        days = c.pour-2.ensures.receiver;
-        taken = c.requires.taken;
-        counts = λ i. rw c.join.ensures (joined_counts r.board given.board _ _ c.requires.receiver.counts c.requires.giver.counts i);
-      };
-      kept_giver = record {
-        lines = c.pour.ensures.giver;
-        days = c.pour-2.ensures.giver;
-        taken = omega arith;
-        counts = λ i. rw c.new-giver.ensures (clear_counts i);
       };
     }
