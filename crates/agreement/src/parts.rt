@@ -19,6 +19,7 @@ pub enum Part {
     Tariffs,
 }
 
+// One match for each column: a table of structs would state the columns' bounds a second time, as its invariant.
 impl Part {
     // The number in a refusal.
     pub(crate) fn number(self) -> u8
