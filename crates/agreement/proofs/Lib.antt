@@ -1,5 +1,6 @@
 pub mod FileLaws
 pub mod KeyLaws
+pub mod LabelLaws
 pub mod OrderLaws
 pub mod ScenarioLaws
 pub mod SoundLaws

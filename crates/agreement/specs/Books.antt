@@ -1,8 +1,8 @@
 -- The two tables of a tariff book: those of rows, and those of a file.
-use Rattle.std.specs.Prelude.{ℕ, Bool, cond, ◌&&◌, List, [], ◌∷◌, Some, None, Ok, Err, Option, Result, nat_le, nat_lt}
+use Rattle.std.specs.Prelude.{◌≡◌, ℕ, ◌^◌, ◌<◌, ◌==◌, length, get_or, Bool, cond, ◌&&◌, List, [], ◌∷◌, Some, None, Ok, Err, Option, Result, nat_le, nat_lt}
 use Rattle.std.specs.List.{between}
 use Rattle.std.specs.Str.{bytes_eq}
-use Rattle.digits.specs.Positional.{bytes_of, decimal}
+use Rattle.digits.specs.Positional.{big_endian, bytes_of, decimal}
 use Rattle.values.specs.Checked.{and_then}
 use Rattle.values.specs.Values.{tariff_in}
 use Rattle.values.specs.declared.calendar.Day.{Day}
@@ -23,6 +23,12 @@ is_of d row = bytes_eq (between 0 5 row) (bytes_of 5 d.number)
 abbrev pub scenario_among : Descriptor → List (List ℕ) → Option Scenario
 scenario_among d [] = None
 scenario_among d (row ∷ rows) = cond (is_of d row) (scenario_in (between 5 14 row)) (scenario_among d rows)
+
+-- a field of w bytes has the bytes of a label exactly if it has the label's number
+abbrev pub FieldsByNumber : Type 0
+FieldsByNumber =
+    (w n : ℕ) (cs : List ℕ) → length cs ≡ w → ((i : ℕ) → get_or cs i 0 < 256) → n < 256 ^ w
+    → bytes_eq cs (bytes_of w n) ≡ (big_endian cs == n)
 
 -- TARI: the first day of a row, and the rows of a point and a descriptor that begin not after a day
 abbrev pub first_day : List ℕ → ℕ

@@ -34,7 +34,7 @@ fn stated_rows(entry: &[u8], part: Part, place: usize) -> Option<usize>
         return None;
     }
     let rows = read_decimal(&entry[10..16], 6)?;
-    if rows < part.least_rows() || rows > part.most_rows() {
+    if !(part.least_rows()..=part.most_rows()).contains(&rows) {
         return None;
     }
     Some(rows as usize)

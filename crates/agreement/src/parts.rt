@@ -1,8 +1,8 @@
 // The parts of an agreement file.
-ghost use Rattle.std.specs.Prelude.{◌≡◌, ◌<◌, ◌≤◌};
+ghost use Rattle.std.specs.Prelude.{◌≡◌, ◌≤◌};
 ghost use Rattle.agreement.specs.Parts.{part_number, part_name, row_width, key_length, least_rows, most_rows};
 
-// Bytes of a row of each part.
+// Bytes of a row of each part: the widths of its type.
 pub(crate) const PARTIES_ROW: usize = 17;
 
 pub(crate) const SCENARIO_ROW: usize = 14;
@@ -19,6 +19,7 @@ pub enum Part {
     Tariffs,
 }
 
+// One match for each column: a table of structs would state the columns' bounds a second time, as its invariant.
 impl Part {
     // The number in a refusal.
     pub(crate) fn number(self) -> u8
@@ -39,18 +40,6 @@ impl Part {
             Part::Parties => b"PART",
             Part::Scenarios => b"CENA",
             Part::Tariffs => b"TARI",
-        }
-    }
-
-    // Bytes of a row.
-    pub(crate) fn width(self) -> usize
-        ensures value { result ≡ row_width self }
-        ensures some { 0 < result }
-    {
-        match self {
-            Part::Parties => PARTIES_ROW,
-            Part::Scenarios => SCENARIO_ROW,
-            Part::Tariffs => TARIFF_ROW,
         }
     }
 
