@@ -48,7 +48,8 @@ fn write_field(out: &mut [u8], at: usize, field: Field)
     field.fill(&mut out[at..at + field.width()]);
 }
 
-// The fields one after the other, from a place on.
+// The fields one after the other, from a place on. The column is kept by hand, since after a loop that cuts a rest with
+// `split_at_mut` no fact ties what the buffer holds to what was written.
 pub fn write_fields(out: &mut [u8], at: usize, fields: &[Field])
     requires { at + sum_by field_width fields.now ≤ length out.old }
     ensures { out.new ≡ written at (fields_bytes fields.now) out.old }

@@ -62,6 +62,7 @@ fn write_verdicts<B: TariffBook>(
     requires { length (details (seen_file file)) ≤ length out.old }
     ensures { out.new ≡ written 0 (verdict_bytes (book_of B.TariffBook book.now) terms reference (seen_file file.entry)) out.old }
 {
+    // By index: of a buffer whose slots a `zip` lent for writing nothing is known afterwards.
     for (i, line) in file.details().enumerate() {
         out[i] = judge(terms, reference, book, line).code();
     }
