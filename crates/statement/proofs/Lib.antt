@@ -1,3 +1,4 @@
 pub mod Boards
 pub mod Takes
 pub mod Reached
+pub mod Same

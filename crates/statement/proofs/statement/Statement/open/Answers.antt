@@ -1,12 +1,12 @@
 use Rattle.std.proofs.Common.{◌≡◌, arith}
-use Rattle.statement.specs.Statement.{model, opened}
+use Rattle.statement.specs.Statement.{Model, opened}
 use Rattle.statement.proofs.Boards.{clear_counts}
 use Rattle.statement.proofs.Reached.{reached_opening}
 use Rattle.statement.proofs.statement.Statement.open.Goals as goal
 
 pub returns : goal.returns
 returns g c =
-    let m : model g.L.RowStore g.D.RowStore (record { terms = c.args.terms; reference = c.args.reference; lines = c.clear.new.self; days = c.clear-2.new.self; taken = 0; board = c.new.result }) ≡ opened c.args.terms c.args.reference (g.L.RowStore.ledger c.args.lines).most (g.D.RowStore.ledger c.args.days).most = λ i. record {
+    let m : ◌≡◌ {A = Model} (record { terms = c.args.terms; reference = c.args.reference; lines = g.L.RowStore.ledger c.clear.new.self; days = g.D.RowStore.ledger c.clear-2.new.self; taken = 0; board = c.new.result }) (opened c.args.terms c.args.reference (g.L.RowStore.ledger c.args.lines).most (g.D.RowStore.ledger c.args.days).most) = λ i. record {
       terms = c.args.terms;
       reference = c.args.reference;
       lines = c.clear.ensures.after i;

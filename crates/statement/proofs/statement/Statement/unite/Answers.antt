@@ -29,3 +29,13 @@ returns g c =
         board = c.new-giver.ensures i;
       };
     }
+
+pub invariant_of-self : goal.invariant_of-self
+invariant_of-self g c = record {
+  kept = record {
+    lines = c.pour.ensures.receiver;
+    days = c.pour-2.ensures.receiver;
+    taken = c.requires.taken;
+    counts = λ i. rw c.join.ensures (joined_counts c.args.self.now.board c.args.giver.now.board _ _ c.args.self.now.kept.counts c.args.giver.now.kept.counts i);
+  };
+}

@@ -1,0 +1,6 @@
+use Rattle.std.proofs.Common.{refl}
+use Rattle.statement.proofs.Same.{same_stores}
+use Rattle.statement.proofs.statement.Statement.line_count.Goals as goal
+
+pub returns-clause-same : goal.returns-clause-same
+returns-clause-same g c = same_stores c.args.self.now _ _ _ c.size.ensures.same refl
