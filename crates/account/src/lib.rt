@@ -4,7 +4,7 @@
 
 ghost use Rattle.std.specs.Prelude.{◌≡◌};
 ghost use Rattle.detraf.specs.File.{answer_of, after_of};
-ghost use Rattle.statement.specs.Statement.{model, Kept};
+ghost use Rattle.statement.specs.Statement.{model};
 ghost use Rattle.account.specs.Settled.{Settled};
 
 use detraf::file::Short;
@@ -19,7 +19,6 @@ pub fn declare<L: RowStore<Row = LineRow>, D: RowStore<Row = DayRow>>(
     statement: &mut Statement<L, D>,
     out: &mut [u8],
 ) -> Result<usize, Short>
-    requires { Kept L.RowStore D.RowStore statement.old }
     ensures answer { result ≡ answer_of (model L.RowStore D.RowStore statement.old).lines.rows out.old }
     ensures after { out.new ≡ after_of (model L.RowStore D.RowStore statement.old).terms (model L.RowStore D.RowStore statement.old).reference (model L.RowStore D.RowStore statement.old).lines.rows out.old }
     ensures same { statement.new ≡ statement.old }

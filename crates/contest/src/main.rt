@@ -27,24 +27,6 @@ use values::terms::Terms;
 // Rows of each store.
 const ROWS: usize = 500;
 
-const NO_LINE: LineCell = LineCell {
-    month: 0,
-    point: 0,
-    descriptor: 0,
-    tariff: 0,
-    calls: 0,
-    tenths: 0,
-};
-
-const NO_DAY: DayCell = DayCell {
-    day: 0,
-    point: 0,
-    calls: 0,
-    tenths: 0,
-    earliest: 0,
-    latest: 0,
-};
-
 #[derive(Drop)]
 struct Input<'a> {
     terms: Terms,
@@ -98,8 +80,8 @@ fn contest(rt: &HostRuntime) -> anyhow::Result<ExitCode> {
     let agreement = read_agreement(rt)?;
     let terms = read_terms(rt, &agreement)?;
     let reference = read_reference(rt)?;
-    let mut lines = vec![in rt.alloc(); NO_LINE; ROWS]?;
-    let mut days = vec![in rt.alloc(); NO_DAY; ROWS]?;
+    let mut lines = vec![in rt.alloc(); LineCell::default(); ROWS]?;
+    let mut days = vec![in rt.alloc(); DayCell::default(); ROWS]?;
     let input = Input {
         terms,
         reference,

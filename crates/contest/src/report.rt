@@ -1,6 +1,5 @@
 // The report: each line with its verdict in words, each month with what both sides have, and a summary.
 ghost use Rattle.std.specs.Prelude.{◌≡◌};
-ghost use Rattle.statement.specs.Statement.{Kept};
 
 use agreement::book::FileBook;
 use declared::file;
@@ -151,7 +150,6 @@ fn print_months<L: RowStore<Row = LineRow>, D: RowStore<Row = DayRow>>(
     statement: &mut Statement<L, D>,
     file: Declared<'_>,
 ) -> anyhow::Result<(usize, usize)>
-    requires { Kept L.RowStore D.RowStore statement.old }
 {
     let mut months: usize = 0;
     let mut contestable: usize = 0;
@@ -220,7 +218,6 @@ pub fn report<L: RowStore<Row = LineRow>, D: RowStore<Row = DayRow>>(
     book: &FileBook,
     bytes: &[u8],
 ) -> anyhow::Result<ExitCode>
-    requires { Kept L.RowStore D.RowStore statement.old }
 {
     let mut verdicts = vec![in rt.alloc(); 0u8; bytes.len() / LINE_WIDTH]?;
     let count = match contest(statement, book, bytes, &mut verdicts) {

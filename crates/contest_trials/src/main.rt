@@ -5,7 +5,6 @@
 ghost use Rattle.std.specs.Prelude.{◌≡◌};
 ghost use Rattle.ledger.specs.Ledger.{Kept as StoreKept};
 ghost use Rattle.ledger.specs.Rows.{line_keys, day_keys};
-ghost use Rattle.statement.specs.Statement.{Kept};
 
 use agreement::book::FileBook;
 use anyhow::anyhow;
@@ -33,24 +32,6 @@ const ROOM: usize = 8;
 
 // How many months before the reference month, the earliest first.
 const BACK: [u8; 3] = [2, 1, 0];
-
-const NO_LINE: LineCell = LineCell {
-    month: 0,
-    point: 0,
-    descriptor: 0,
-    tariff: 0,
-    calls: 0,
-    tenths: 0,
-};
-
-const NO_DAY: DayCell = DayCell {
-    day: 0,
-    point: 0,
-    calls: 0,
-    tenths: 0,
-    earliest: 0,
-    latest: 0,
-};
 
 #[derive(Drop)]
 struct Input<'a> {
@@ -89,7 +70,6 @@ fn show_months<L: RowStore<Row = LineRow>, D: RowStore<Row = DayRow>>(
     statement: &mut Statement<L, D>,
     bytes: &[u8],
 ) -> anyhow::Result<()>
-    requires { Kept L.RowStore D.RowStore statement.old }
     ensures { statement.new ≡ statement.old }
 {
     let Ok(file) = file::read(bytes) else {
@@ -114,7 +94,6 @@ fn show<L: RowStore<Row = LineRow>, D: RowStore<Row = DayRow>>(
     book: &FileBook,
     bytes: &[u8],
 ) -> anyhow::Result<()>
-    requires { Kept L.RowStore D.RowStore statement.old }
     ensures { statement.new ≡ statement.old }
 {
     let mut out = [b'-'; ROOM];
@@ -133,7 +112,6 @@ fn show_all<L: RowStore<Row = LineRow>, D: RowStore<Row = DayRow>>(
     statement: &mut Statement<L, D>,
     book: &FileBook,
 ) -> anyhow::Result<()>
-    requires { Kept L.RowStore D.RowStore statement.old }
 {
     let mut text = String::new(rt.alloc());
     for line in BufReader::new(rt.alloc(), rt.stdin())?.lines(rt.alloc()) {
@@ -178,8 +156,8 @@ fn main(rt: HostRuntime) -> anyhow::Result<()> {
     let Some(reference) = read_month(&records[0..MONTH_LINE]) else {
         return Err(anyhow!("the month is refused"));
     };
-    let mut lines = [NO_LINE; ROWS];
-    let mut days = [NO_DAY; ROWS];
+    let mut lines = [LineCell::default(); ROWS];
+    let mut days = [DayCell::default(); ROWS];
     let input = Input {
         terms,
         reference,

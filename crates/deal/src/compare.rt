@@ -1,6 +1,5 @@
 // What differs first between two statements, in the order file, lines, days, refusals, records taken.
 ghost use Rattle.std.specs.Prelude.{◌≡◌};
-ghost use Rattle.statement.specs.Statement.{Kept};
 
 use account::declare;
 use anyhow::anyhow;
@@ -51,7 +50,6 @@ fn file_of<L: RowStore<Row = LineRow>, D: RowStore<Row = DayRow>>(
     rt: &HostRuntime,
     statement: &mut Statement<L, D>,
 ) -> anyhow::Result<Vec<u8>>
-    requires { Kept L.RowStore D.RowStore statement.old }
     ensures { statement.new ≡ statement.old }
 {
     let mut file = vec![in rt.alloc(); 0u8; FILE]?;
@@ -70,8 +68,6 @@ fn same_lines<
     M: RowStore<Row = LineRow>,
     E: RowStore<Row = DayRow>,
 >(a: &mut Statement<L, D>, b: &mut Statement<M, E>) -> bool
-    requires first { Kept L.RowStore D.RowStore a.old }
-    requires second { Kept M.RowStore E.RowStore b.old }
     ensures first { a.new ≡ a.old }
     ensures second { b.new ≡ b.old }
 {
@@ -96,8 +92,6 @@ fn same_days<
     M: RowStore<Row = LineRow>,
     E: RowStore<Row = DayRow>,
 >(a: &mut Statement<L, D>, b: &mut Statement<M, E>) -> bool
-    requires first { Kept L.RowStore D.RowStore a.old }
-    requires second { Kept M.RowStore E.RowStore b.old }
     ensures first { a.new ≡ a.old }
     ensures second { b.new ≡ b.old }
 {
@@ -143,8 +137,6 @@ pub fn first_difference<
     a: &mut Statement<L, D>,
     b: &mut Statement<M, E>,
 ) -> anyhow::Result<Option<&'static str>>
-    requires first { Kept L.RowStore D.RowStore a.old }
-    requires second { Kept M.RowStore E.RowStore b.old }
     ensures first { a.new ≡ a.old }
     ensures second { b.new ≡ b.old }
 {

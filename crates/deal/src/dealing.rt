@@ -2,7 +2,6 @@
 ghost use Rattle.std.specs.Prelude.{◌≡◌};
 ghost use Rattle.ledger.specs.Ledger.{Kept as StoreKept};
 ghost use Rattle.ledger.specs.Rows.{line_keys, day_keys};
-ghost use Rattle.statement.specs.Statement.{Kept};
 
 use crate::compare::first_difference;
 use crate::records::Records;
@@ -10,8 +9,7 @@ use agreement::book::FileBook;
 use anyhow::anyhow;
 use holdback::layer::HoldBack;
 use images::format::blank;
-use imagestore::day::DayImage;
-use imagestore::line::LineImage;
+use imagestore::image::{DayImage, LineImage};
 use ledger::day::{DayCell, DayRow};
 use ledger::line::{LineCell, LineRow};
 use ledger::row::Row;
@@ -28,24 +26,6 @@ const LINE_IMAGE: usize = 26_507;
 
 const DAY_IMAGE: usize = 27_507;
 
-const NO_LINE: LineCell = LineCell {
-    month: 0,
-    point: 0,
-    descriptor: 0,
-    tariff: 0,
-    calls: 0,
-    tenths: 0,
-};
-
-const NO_DAY: DayCell = DayCell {
-    day: 0,
-    point: 0,
-    calls: 0,
-    tenths: 0,
-    earliest: 0,
-    latest: 0,
-};
-
 // Which records a unit takes: every `units`-th from the `unit`-th on.
 #[derive(Clone, Copy)]
 struct Share {
@@ -60,8 +40,6 @@ fn take_share<L: RowStore<Row = LineRow>, D: RowStore<Row = DayRow>>(
     records: &Records<'_>,
     share: Share,
 )
-    requires { Kept L.RowStore D.RowStore statement.old }
-    ensures { Kept L.RowStore D.RowStore statement.new }
 {
     for i in 0..records.count() {
         if share.units > 0 && i % share.units == share.unit {
@@ -76,8 +54,6 @@ fn take_reversed<L: RowStore<Row = LineRow>, D: RowStore<Row = DayRow>>(
     book: &FileBook,
     records: &Records<'_>,
 )
-    requires { Kept L.RowStore D.RowStore statement.old }
-    ensures { Kept L.RowStore D.RowStore statement.new }
 {
     let count = records.count();
     for i in 0..count {
@@ -104,10 +80,6 @@ fn unite<
     receiver: &mut Statement<L, D>,
     giver: &mut Statement<M, E>,
 ) -> anyhow::Result<()>
-    requires receiver { Kept L.RowStore D.RowStore receiver.old }
-    requires giver { Kept M.RowStore E.RowStore giver.old }
-    ensures receiver { Kept L.RowStore D.RowStore receiver.new }
-    ensures giver { Kept M.RowStore E.RowStore giver.new }
 {
     match receiver.join(giver) {
         Ok(()) => Ok(()),
@@ -141,7 +113,6 @@ fn run_held<
     book: &FileBook,
     records: &Records<'_>,
 ) -> anyhow::Result<()>
-    requires whole { Kept L.RowStore D.RowStore whole.old }
     requires lines { StoreKept line_keys (M.RowStore.ledger lines) (M.RowStore.kept lines) }
     requires days { StoreKept day_keys (E.RowStore.ledger days) (E.RowStore.kept days) }
     ensures { whole.new ≡ whole.old }
@@ -164,11 +135,10 @@ fn run_reversed<L: RowStore<Row = LineRow>, D: RowStore<Row = DayRow>>(
     book: &FileBook,
     records: &Records<'_>,
 ) -> anyhow::Result<()>
-    requires { Kept L.RowStore D.RowStore whole.old }
     ensures { whole.new ≡ whole.old }
 {
-    let mut lines = vec![in rt.alloc(); NO_LINE; ROWS]?;
-    let mut days = vec![in rt.alloc(); NO_DAY; ROWS]?;
+    let mut lines = vec![in rt.alloc(); LineCell::default(); ROWS]?;
+    let mut days = vec![in rt.alloc(); DayCell::default(); ROWS]?;
     run_held(
         rt,
         whole,
@@ -186,11 +156,10 @@ fn run_two<L: RowStore<Row = LineRow>, D: RowStore<Row = DayRow>>(
     book: &FileBook,
     records: &Records<'_>,
 ) -> anyhow::Result<()>
-    requires { Kept L.RowStore D.RowStore whole.old }
     ensures { whole.new ≡ whole.old }
 {
-    let mut lines = vec![in rt.alloc(); NO_LINE; ROWS]?;
-    let mut days = vec![in rt.alloc(); NO_DAY; ROWS]?;
+    let mut lines = vec![in rt.alloc(); LineCell::default(); ROWS]?;
+    let mut days = vec![in rt.alloc(); DayCell::default(); ROWS]?;
     let mut line_image = empty_image(rt, LINE_IMAGE)?;
     let mut day_image = empty_image(rt, DAY_IMAGE)?;
     let mut first = Statement::open(
@@ -223,7 +192,6 @@ fn run_three<L: RowStore<Row = LineRow>, D: RowStore<Row = DayRow>>(
     book: &FileBook,
     records: &Records<'_>,
 ) -> anyhow::Result<()>
-    requires { Kept L.RowStore D.RowStore whole.old }
     ensures { whole.new ≡ whole.old }
 {
     let mut line_image = empty_image(rt, LINE_IMAGE)?;
@@ -260,10 +228,8 @@ fn give_layered<
     records: &Records<'_>,
     share: Share,
 ) -> anyhow::Result<()>
-    requires receiver { Kept L.RowStore D.RowStore receiver.old }
     requires lines { StoreKept line_keys (M.RowStore.ledger lines) (M.RowStore.kept lines) }
     requires days { StoreKept day_keys (E.RowStore.ledger days) (E.RowStore.kept days) }
-    ensures { Kept L.RowStore D.RowStore receiver.new }
 {
     let mut giver = Statement::open(
         receiver.terms(),
@@ -283,11 +249,9 @@ fn give_held<L: RowStore<Row = LineRow>, D: RowStore<Row = DayRow>>(
     records: &Records<'_>,
     share: Share,
 ) -> anyhow::Result<()>
-    requires { Kept L.RowStore D.RowStore receiver.old }
-    ensures { Kept L.RowStore D.RowStore receiver.new }
 {
-    let mut lines = vec![in rt.alloc(); NO_LINE; ROWS]?;
-    let mut days = vec![in rt.alloc(); NO_DAY; ROWS]?;
+    let mut lines = vec![in rt.alloc(); LineCell::default(); ROWS]?;
+    let mut days = vec![in rt.alloc(); DayCell::default(); ROWS]?;
     give_layered(
         rt,
         receiver,
@@ -307,11 +271,9 @@ fn give_tables<L: RowStore<Row = LineRow>, D: RowStore<Row = DayRow>>(
     records: &Records<'_>,
     share: Share,
 ) -> anyhow::Result<()>
-    requires { Kept L.RowStore D.RowStore receiver.old }
-    ensures { Kept L.RowStore D.RowStore receiver.new }
 {
-    let mut lines = vec![in rt.alloc(); NO_LINE; ROWS]?;
-    let mut days = vec![in rt.alloc(); NO_DAY; ROWS]?;
+    let mut lines = vec![in rt.alloc(); LineCell::default(); ROWS]?;
+    let mut days = vec![in rt.alloc(); DayCell::default(); ROWS]?;
     let mut giver = Statement::open(
         receiver.terms(),
         receiver.reference(),
@@ -340,8 +302,8 @@ pub fn run(
     book: &FileBook,
     records: &Records<'_>,
 ) -> anyhow::Result<()> {
-    let mut lines = vec![in rt.alloc(); NO_LINE; ROWS]?;
-    let mut days = vec![in rt.alloc(); NO_DAY; ROWS]?;
+    let mut lines = vec![in rt.alloc(); LineCell::default(); ROWS]?;
+    let mut days = vec![in rt.alloc(); DayCell::default(); ROWS]?;
     let mut whole = Statement::open(
         terms,
         reference,

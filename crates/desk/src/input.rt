@@ -1,6 +1,5 @@
 // The input of a settlement: the reference month and the records on standard input.
 ghost use Rattle.std.specs.Prelude.{◌≡◌, ◌≤◌, length, IfOk};
-ghost use Rattle.statement.specs.Statement.{Kept};
 
 use anyhow::anyhow;
 use ledger::day::DayRow;
@@ -42,8 +41,6 @@ pub fn feed_all<L: RowStore<Row = LineRow>, D: RowStore<Row = DayRow>, B: Tariff
     rt: &HostRuntime,
     settlement: &mut Settlement<L, D, B>,
 ) -> anyhow::Result<()>
-    requires { Kept L.RowStore D.RowStore settlement.old.intake.sink.statement }
-    ensures { Kept L.RowStore D.RowStore settlement.new.intake.sink.statement }
 {
     let mut input = rt.stdin();
     let mut piece = vec![in rt.alloc(); 0u8; PIECE]?;

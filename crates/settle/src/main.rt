@@ -7,7 +7,6 @@ mod piles;
 ghost use Rattle.std.specs.Prelude.{◌≡◌};
 ghost use Rattle.ledger.specs.Ledger.{Kept as StoreKept};
 ghost use Rattle.ledger.specs.Rows.{line_keys, day_keys};
-ghost use Rattle.statement.specs.Statement.{Kept};
 
 use account::declare;
 use agreement::book::FileBook;
@@ -36,7 +35,6 @@ fn print<L: RowStore<Row = LineRow>, D: RowStore<Row = DayRow>>(
     rt: &HostRuntime,
     statement: &mut Statement<L, D>,
 ) -> anyhow::Result<()>
-    requires { Kept L.RowStore D.RowStore statement.old }
 {
     let mut file = vec![in rt.alloc(); 0u8; FILE]?;
     let Ok(length) = declare(statement, &mut file) else {

@@ -7,8 +7,7 @@ use crate::settle_records;
 use anyhow::anyhow;
 use holdback::layer::HoldBack;
 use images::format::blank;
-use imagestore::day::DayImage;
-use imagestore::line::LineImage;
+use imagestore::image::{DayImage, LineImage};
 use ledger::day::{DayCell, DayRow};
 use ledger::line::{LineCell, LineRow};
 use ledger::store::RowStore;
@@ -24,24 +23,6 @@ const ROWS: usize = 500;
 const LINE_IMAGE: usize = 26_507;
 
 const DAY_IMAGE: usize = 27_507;
-
-const NO_LINE: LineCell = LineCell {
-    month: 0,
-    point: 0,
-    descriptor: 0,
-    tariff: 0,
-    calls: 0,
-    tenths: 0,
-};
-
-const NO_DAY: DayCell = DayCell {
-    day: 0,
-    point: 0,
-    calls: 0,
-    tenths: 0,
-    earliest: 0,
-    latest: 0,
-};
 
 // What keeps the rows: tables or images, each alone or below a hold-back layer.
 #[derive(Clone, Copy)]
@@ -96,8 +77,8 @@ pub fn in_tables<B: TariffBook + Drop>(
     reference: Month,
     book: B,
 ) -> anyhow::Result<()> {
-    let mut lines = vec![in rt.alloc(); NO_LINE; ROWS]?;
-    let mut days = vec![in rt.alloc(); NO_DAY; ROWS]?;
+    let mut lines = vec![in rt.alloc(); LineCell::default(); ROWS]?;
+    let mut days = vec![in rt.alloc(); DayCell::default(); ROWS]?;
     settle_records(
         rt,
         terms,
@@ -114,8 +95,8 @@ pub fn in_held_tables<B: TariffBook + Drop>(
     reference: Month,
     book: B,
 ) -> anyhow::Result<()> {
-    let mut lines = vec![in rt.alloc(); NO_LINE; ROWS]?;
-    let mut days = vec![in rt.alloc(); NO_DAY; ROWS]?;
+    let mut lines = vec![in rt.alloc(); LineCell::default(); ROWS]?;
+    let mut days = vec![in rt.alloc(); DayCell::default(); ROWS]?;
     settle_held(
         rt,
         terms,

@@ -5,7 +5,7 @@ ghost use Rattle.ledger.specs.Ledger.{Kept as StoreKept};
 ghost use Rattle.ledger.specs.Rows.{line_keys, day_keys};
 ghost use Rattle.rating.specs.Rating.{Book, book_of};
 ghost use Rattle.statement.specs.Account.{Entry, Reaches};
-ghost use Rattle.statement.specs.Statement.{Model, model, Kept, opened};
+ghost use Rattle.statement.specs.Statement.{Model, model, opened};
 ghost use Rattle.settlement.specs.Settling.{Settling, take_all, account_all};
 
 use crate::taker::Taker;
@@ -32,7 +32,6 @@ impl<L: RowStore<Row = LineRow>, D: RowStore<Row = DayRow>, B: TariffBook + Drop
     pub fn open(terms: Terms, reference: Month, lines: L, days: D, book: B) -> Self
         requires lines { StoreKept line_keys (L.RowStore.ledger lines) (L.RowStore.kept lines) }
         requires days { StoreKept day_keys (D.RowStore.ledger days) (D.RowStore.kept days) }
-        ensures kept { Kept L.RowStore D.RowStore result.intake.sink.statement }
         ensures began { Settling L.RowStore D.RowStore B.TariffBook (opened terms reference (L.RowStore.ledger lines).most (D.RowStore.ledger days).most) (book_of B.TariffBook book) [] result }
     {
         let statement = Statement::open(terms, reference, lines, days);
@@ -43,8 +42,6 @@ impl<L: RowStore<Row = LineRow>, D: RowStore<Row = DayRow>, B: TariffBook + Drop
 
     // The next piece of the records.
     pub fn feed(&mut self, piece: &[u8])
-        requires { Kept L.RowStore D.RowStore self.old.intake.sink.statement }
-        ensures kept { Kept L.RowStore D.RowStore self.new.intake.sink.statement }
         ensures fed { (start : Model) (b : Book) (xs : List ℕ) → Settling L.RowStore D.RowStore B.TariffBook start b xs self.old → Settling L.RowStore D.RowStore B.TariffBook start b (xs ++ piece.now) self.new }
     {
         self.intake.feed(piece);
@@ -52,8 +49,6 @@ impl<L: RowStore<Row = LineRow>, D: RowStore<Row = DayRow>, B: TariffBook + Drop
 
     // The statement after all records of the input.
     pub fn finish(self) -> Statement<L, D>
-        requires { Kept L.RowStore D.RowStore self.intake.sink.statement }
-        ensures kept { Kept L.RowStore D.RowStore result }
         ensures settled { (start : Model) (b : Book) (xs : List ℕ) → Settling L.RowStore D.RowStore B.TariffBook start b xs self → model L.RowStore D.RowStore result ≡ take_all b start (records_of xs) }
         ensures reached { (start : Model) (b : Book) (xs : List ℕ) (a : List Entry) → Settling L.RowStore D.RowStore B.TariffBook start b xs self → Reaches start a → Reaches (model L.RowStore D.RowStore result) (account_all b start a (records_of xs)) }
     {

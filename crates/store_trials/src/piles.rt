@@ -8,8 +8,7 @@ use agreement::book::FileBook;
 use anyhow::anyhow;
 use holdback::layer::HoldBack;
 use images::format::blank;
-use imagestore::day::DayImage;
-use imagestore::line::LineImage;
+use imagestore::image::{DayImage, LineImage};
 use ledger::day::{DayCell, DayRow};
 use ledger::line::{LineCell, LineRow};
 use ledger::store::RowStore;
@@ -25,24 +24,6 @@ const ROWS: usize = 12;
 const LINE_IMAGE: usize = 660;
 
 const DAY_IMAGE: usize = 680;
-
-const NO_LINE: LineCell = LineCell {
-    month: 0,
-    point: 0,
-    descriptor: 0,
-    tariff: 0,
-    calls: 0,
-    tenths: 0,
-};
-
-const NO_DAY: DayCell = DayCell {
-    day: 0,
-    point: 0,
-    calls: 0,
-    tenths: 0,
-    earliest: 0,
-    latest: 0,
-};
 
 #[derive(Drop)]
 pub struct Input<'a> {
@@ -118,8 +99,8 @@ fn empty_image(rt: &HostRuntime, length: usize) -> anyhow::Result<Vec<u8>> {
 }
 
 pub fn in_tables(rt: &HostRuntime, input: &Input<'_>) -> anyhow::Result<Vec<u8>> {
-    let mut lines = [NO_LINE; ROWS];
-    let mut days = [NO_DAY; ROWS];
+    let mut lines = [LineCell::default(); ROWS];
+    let mut days = [DayCell::default(); ROWS];
     settled(
         rt,
         input,
@@ -129,8 +110,8 @@ pub fn in_tables(rt: &HostRuntime, input: &Input<'_>) -> anyhow::Result<Vec<u8>>
 }
 
 pub fn in_held_tables(rt: &HostRuntime, input: &Input<'_>) -> anyhow::Result<Vec<u8>> {
-    let mut lines = [NO_LINE; ROWS];
-    let mut days = [NO_DAY; ROWS];
+    let mut lines = [LineCell::default(); ROWS];
+    let mut days = [DayCell::default(); ROWS];
     settled_held(
         rt,
         input,
@@ -140,8 +121,8 @@ pub fn in_held_tables(rt: &HostRuntime, input: &Input<'_>) -> anyhow::Result<Vec
 }
 
 pub fn in_twice_held_tables(rt: &HostRuntime, input: &Input<'_>) -> anyhow::Result<Vec<u8>> {
-    let mut lines = [NO_LINE; ROWS];
-    let mut days = [NO_DAY; ROWS];
+    let mut lines = [LineCell::default(); ROWS];
+    let mut days = [DayCell::default(); ROWS];
     settled_twice_held(
         rt,
         input,
@@ -175,7 +156,7 @@ pub fn in_held_images(rt: &HostRuntime, input: &Input<'_>) -> anyhow::Result<Vec
 // Two kinds of store in one statement.
 pub fn in_both(rt: &HostRuntime, input: &Input<'_>) -> anyhow::Result<Vec<u8>> {
     let mut lines = empty_image(rt, LINE_IMAGE)?;
-    let mut days = [NO_DAY; ROWS];
+    let mut days = [DayCell::default(); ROWS];
     settled_days_held(
         rt,
         input,

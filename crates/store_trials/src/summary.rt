@@ -1,6 +1,5 @@
 // All that a statement keeps, as text: the file, the lines, the days and the refusals.
 ghost use Rattle.std.specs.Prelude.{◌≡◌};
-ghost use Rattle.statement.specs.Statement.{Kept};
 
 use anyhow::anyhow;
 use ledger::day::DayRow;
@@ -20,7 +19,6 @@ fn add_file<L: RowStore<Row = LineRow>, D: RowStore<Row = DayRow>>(
     statement: &mut Statement<L, D>,
     text: &mut Vec<u8>,
 ) -> anyhow::Result<()>
-    requires { Kept L.RowStore D.RowStore statement.old }
     ensures { statement.new ≡ statement.old }
 {
     let mut file = vec![in rt.alloc(); 0u8; FILE]?;
@@ -40,7 +38,6 @@ fn add_lines<L: RowStore<Row = LineRow>, D: RowStore<Row = DayRow>>(
     statement: &mut Statement<L, D>,
     text: &mut Vec<u8>,
 ) -> anyhow::Result<()>
-    requires { Kept L.RowStore D.RowStore statement.old }
     ensures { statement.new ≡ statement.old }
 {
     let mut key = None;
@@ -68,7 +65,6 @@ fn add_days<L: RowStore<Row = LineRow>, D: RowStore<Row = DayRow>>(
     statement: &mut Statement<L, D>,
     text: &mut Vec<u8>,
 ) -> anyhow::Result<()>
-    requires { Kept L.RowStore D.RowStore statement.old }
     ensures { statement.new ≡ statement.old }
 {
     let mut key = None;
@@ -95,7 +91,6 @@ pub fn summary<L: RowStore<Row = LineRow>, D: RowStore<Row = DayRow>>(
     rt: &HostRuntime,
     statement: &mut Statement<L, D>,
 ) -> anyhow::Result<Vec<u8>>
-    requires { Kept L.RowStore D.RowStore statement.old }
 {
     let mut text = Vec::new(rt.alloc());
     add_file(rt, statement, &mut text)?;

@@ -3,7 +3,6 @@
 #![tactic(auto)]
 
 ghost use Rattle.std.specs.Prelude.{◌≡◌};
-ghost use Rattle.statement.specs.Statement.{Kept};
 
 use agreement::book::FileBook;
 use anyhow::anyhow;
@@ -23,24 +22,6 @@ use values::calendar::Month;
 use values::terms::Terms;
 
 const ROWS: usize = 2;
-
-const NO_LINE: LineCell = LineCell {
-    month: 0,
-    point: 0,
-    descriptor: 0,
-    tariff: 0,
-    calls: 0,
-    tenths: 0,
-};
-
-const NO_DAY: DayCell = DayCell {
-    day: 0,
-    point: 0,
-    calls: 0,
-    tenths: 0,
-    earliest: 0,
-    latest: 0,
-};
 
 // Places of the agreement file, counted from 0, and the byte that is put there.
 const DAMAGES: [(usize, u8); 15] = [
@@ -106,8 +87,6 @@ fn take_records<L: RowStore<Row = LineRow>, D: RowStore<Row = DayRow>>(
     statement: &mut Statement<L, D>,
     book: &FileBook,
 ) -> anyhow::Result<()>
-    requires { Kept L.RowStore D.RowStore statement.old }
-    ensures { Kept L.RowStore D.RowStore statement.new }
 {
     for line in BufReader::new(rt.alloc(), rt.stdin())?.lines(rt.alloc()) {
         let line = line?;
@@ -123,8 +102,6 @@ fn spend<L: RowStore<Row = LineRow>, D: RowStore<Row = DayRow>>(
     statement: &mut Statement<L, D>,
     book: &FileBook,
 ) -> anyhow::Result<()>
-    requires { Kept L.RowStore D.RowStore statement.old }
-    ensures { Kept L.RowStore D.RowStore statement.new }
 {
     for _ in 0..MOST_TAKEN {
         if statement.taken() < MOST_TAKEN {
@@ -142,8 +119,6 @@ fn write<L: RowStore<Row = LineRow>, D: RowStore<Row = DayRow>>(
     rt: &HostRuntime,
     statement: &mut Statement<L, D>,
 ) -> anyhow::Result<()>
-    requires { Kept L.RowStore D.RowStore statement.old }
-    ensures { Kept L.RowStore D.RowStore statement.new }
 {
     let mut short = [b'-'; 386];
     if let Err(fault) = statement.write_file(&mut short) {
@@ -198,8 +173,8 @@ fn read_months(rt: &HostRuntime) -> anyhow::Result<()> {
 }
 
 fn run(rt: &HostRuntime, terms: Terms, reference: Month, bytes: &[u8]) -> anyhow::Result<()> {
-    let mut lines = [NO_LINE; ROWS];
-    let mut days = [NO_DAY; ROWS];
+    let mut lines = [LineCell::default(); ROWS];
+    let mut days = [DayCell::default(); ROWS];
     let book = FileBook::new(bytes);
     let mut statement = Statement::open(
         terms,
