@@ -28,12 +28,11 @@ module _ {S : Type 0} (sinks : RecordSink.Ghosts S) where
   fed_on start xs ys s t none same held fed = record {
     rest = subst (λ (p : List ℕ). Holds t p) (sym (rest_on xs ys none)) (held (unended_rest xs) fed.rest);
     taken = subst (λ (rs : List (List ℕ)). TakesAll sinks start rs t.sink) (sym (ended_on xs ys none)) (subst (λ (u : S). TakesAll sinks start (ended_records xs) u) (sym same) fed.taken);
-    kept = subst (λ (u : S). sinks.kept u) (sym same) fed.kept;
   }
 
   -- bytes that a line feed ends
-  pub fed_line : (start : S) (xs ys : List ℕ) (s t : Intake S) → has_end ys ≡ false → sinks.kept t.sink → ((p : List ℕ) → Holds s p → Holds t [] × sinks.takes s.sink (p ++ ys) t.sink) → Fed sinks start xs s → Fed sinks start (xs ++ (ys ++ (line_feed ∷ []))) t
-  fed_line start xs ys s t none kept took fed =
+  pub fed_line : (start : S) (xs ys : List ℕ) (s t : Intake S) → has_end ys ≡ false → ((p : List ℕ) → Holds s p → Holds t [] × sinks.takes s.sink (p ++ ys) t.sink) → Fed sinks start xs s → Fed sinks start (xs ++ (ys ++ (line_feed ∷ []))) t
+  fed_line start xs ys s t none took fed =
       let all = xs ++ (ys ++ (line_feed ∷ [])) in
       let r = took (unended_rest xs) fed.rest in
       let a : (xs ++ ys) ++ (line_feed ∷ []) ≡ all = append_assoc xs ys (line_feed ∷ []) in
@@ -43,7 +42,6 @@ module _ {S : Type 0} (sinks : RecordSink.Ghosts S) where
       record {
         rest = subst (λ (p : List ℕ). Holds t p) (sym e) r.0;
         taken = subst (λ (rs : List (List ℕ)). TakesAll sinks start rs t.sink) (sym d) (takes_push start s.sink t.sink (ended_records xs) (unended_rest xs ++ ys) fed.taken r.1);
-        kept = kept;
       }
 
   -- the end of the input, after a rest

@@ -31,4 +31,3 @@ module _ {S : Type 0} (sinks : RecordSink.Ghosts S) where
   pub record Fed (start : S) (xs : List ℕ) (s : Intake S) : Type 0 where
     pub rest : Holds s (unended_rest xs)
     pub taken : TakesAll start (ended_records xs) s.sink
-    pub kept : sinks.kept s.sink

@@ -23,7 +23,6 @@ pub struct Intake<S> {
 impl<S: RecordSink> Intake<S> {
     // An intake that was fed nothing yet.
     pub fn new(sink: S) -> Intake<S>
-        requires { S.RecordSink.kept sink }
         ensures { Fed S.RecordSink sink [] result }
     {
         Intake {
@@ -34,8 +33,6 @@ impl<S: RecordSink> Intake<S> {
 
     // Takes the next piece of the input.
     pub fn feed(&mut self, piece: &[u8])
-        requires { S.RecordSink.kept self.old.sink }
-        ensures kept { S.RecordSink.kept self.new.sink }
         ensures fed { (start : S) (xs : List ℕ) → Fed S.RecordSink start xs self.old → Fed S.RecordSink start (xs ++ piece.now) self.new }
     {
         let mut rest = piece;
@@ -48,8 +45,6 @@ impl<S: RecordSink> Intake<S> {
 
     // Ends the input: a rest that no line feed ends is a record too.
     pub fn finish(mut self) -> S
-        requires { S.RecordSink.kept self.sink }
-        ensures kept { S.RecordSink.kept result }
         ensures taken { (start : S) (xs : List ℕ) → Fed S.RecordSink start xs self → TakesAll S.RecordSink start (records_of xs) result }
     {
         self.end_rest();
@@ -58,8 +53,6 @@ impl<S: RecordSink> Intake<S> {
 
     // Hands on the rest that no line feed ends, unless it is empty.
     fn end_rest(&mut self)
-        requires { S.RecordSink.kept self.old.sink }
-        ensures kept { S.RecordSink.kept self.new.sink }
         ensures taken { (start : S) (xs : List ℕ) → Fed S.RecordSink start xs self.old → TakesAll S.RecordSink start (records_of xs) self.new.sink }
     {
         if !self.holds_nothing() {
@@ -76,8 +69,6 @@ impl<S: RecordSink> Intake<S> {
 
     // Ends the record with these bytes.
     fn end_line(&mut self, bytes: &[u8])
-        requires { S.RecordSink.kept self.old.sink }
-        ensures kept { S.RecordSink.kept self.new.sink }
         ensures taken { (p : List ℕ) → Holds self.old p → Holds self.new [] × S.RecordSink.takes self.old.sink (p ++ bytes.now) self.new.sink }
     {
         if self.holds_nothing() {
@@ -102,8 +93,6 @@ impl<S: RecordSink> Intake<S> {
 
     // Hands on the record that is held.
     fn end_held(&mut self)
-        requires { S.RecordSink.kept self.old.sink }
-        ensures kept { S.RecordSink.kept self.new.sink }
         ensures taken { (p : List ℕ) → Holds self.old p → Holds self.new [] × S.RecordSink.takes self.old.sink p self.new.sink }
     {
         match self.held.replace(ArrayVec::new()) {

@@ -6,20 +6,13 @@ ghost use Rattle.intake.specs.Records.{longest_kept};
 pub const LONGEST: usize = 129;
 
 pub trait RecordSink {
-    // The sink's own law, which each call asks and gives back.
-    ghost kept: { Self → Type 0 };
-
     // takes s bytes t: t is s after it took the record with these bytes.
     ghost takes: { Self → List ℕ → Self → Type 0 };
 
     fn take(&mut self, bytes: &[u8])
-        requires { kept self.old }
-        ensures kept { kept self.new }
         ensures takes { takes self.old bytes.now self.new };
 
     // Takes a record of more than LONGEST bytes, of which none is at hand: what it does goes for every such record.
     fn take_overlong(&mut self)
-        requires { kept self.old }
-        ensures kept { kept self.new }
         ensures takes { (bs : List ℕ) → longest_kept < length bs → takes self.old bs self.new };
 }

@@ -46,7 +46,7 @@ reached_all b m a [] h = h
 reached_all b m a (r ∷ rs) h = reached_all b (take_after m b r) (take_noted a b r (take_answer m b r)) rs (took h b r)
 
 module _ {L D B : Type 0} (line_store : RowStore.Ghosts L LineRow LineKey) (day_store : RowStore.Ghosts D DayRow DayKey) (books : TariffBook.Ghosts B) where
-  pub taken_all : (s : Taker L D B) (rs : List (List ℕ)) (t : Taker L D B) → TakesAll (sinks line_store day_store books) s rs t → model line_store day_store t.statement ≡ take_all (book_of books s.book) (model line_store day_store s.statement) rs
+  pub taken_all : (s : Taker L D B line_store day_store) (rs : List (List ℕ)) (t : Taker L D B line_store day_store) → TakesAll (sinks line_store day_store books) s rs t → model line_store day_store t.statement ≡ take_all (book_of books s.book) (model line_store day_store s.statement) rs
   taken_all s [] t e = ap (λ x. model line_store day_store x.statement) (sym e)
   taken_all s (r ∷ rs) t h =
       let u = h.0 in

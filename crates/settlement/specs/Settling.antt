@@ -32,8 +32,8 @@ account_all b m a (r ∷ rs) = account_all b (take_after m b r) (take_noted a b 
 
 module _ {L D B : Type 0} (line_store : RowStore.Ghosts L LineRow LineKey) (day_store : RowStore.Ghosts D DayRow DayKey) (books : TariffBook.Ghosts B) where
   -- s began with the statement `start` and a book, and was fed the bytes xs, in whatever pieces
-  pub record Settling (start : Model) (b : Book) (xs : List ℕ) (s : Settlement L D B) : Type 0 where
-    pub first : Taker L D B
+  pub record Settling (start : Model) (b : Book) (xs : List ℕ) (s : Settlement L D B line_store day_store) : Type 0 where
+    pub first : Taker L D B line_store day_store
     pub fed : Fed (sinks line_store day_store books) first xs s.intake
     pub began : model line_store day_store first.statement ≡ start
     pub handed : book_of books first.book ≡ b

@@ -3,6 +3,7 @@ ghost use Rattle.std.specs.Prelude.{◌≡◌};
 ghost use Rattle.settlement.specs.Settling.{month_line};
 
 use values::calendar::Month;
+use values::decimal::Decimal;
 
 // The bytes of the line: six digits and 0A hex.
 pub const MONTH_LINE: usize = 7;

@@ -19,7 +19,7 @@ use values::calendar::Month;
 use values::terms::Terms;
 
 #[derive(Drop)]
-pub struct Settlement<L, D, B> {
+pub struct Settlement<L: RowStore<Row = LineRow>, D: RowStore<Row = DayRow>, B> {
     intake: Intake<Taker<L, D, B>>,
 }
 

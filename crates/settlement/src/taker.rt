@@ -1,6 +1,6 @@
 // A statement that takes the records of an input, each with the same book.
 ghost use Rattle.std.specs.Prelude.{◌≡◌, ℕ, List};
-ghost use Rattle.settlement.specs.Taking.{Keeps, Took};
+ghost use Rattle.settlement.specs.Taking.{Took};
 
 use intake::sink::RecordSink;
 use ledger::day::DayRow;
@@ -10,15 +10,13 @@ use rating::book::TariffBook;
 use statement::statement::Statement;
 
 #[derive(Drop)]
-pub struct Taker<L, D, B> {
+pub struct Taker<L: RowStore<Row = LineRow>, D: RowStore<Row = DayRow>, B> {
     pub statement: Statement<L, D>,
     pub book: B,
 }
 
 impl<L: RowStore<Row = LineRow>, D: RowStore<Row = DayRow>, B: TariffBook> RecordSink
     for Taker<L, D, B> {
-    ghost kept = { Keeps L.RowStore D.RowStore B.TariffBook };
-
     ghost takes = { Took L.RowStore D.RowStore B.TariffBook };
 
     fn take(&mut self, bytes: &[u8]) {

@@ -11,20 +11,21 @@ loop-line-preserved g c =
     let line = c.in-Some.line.now in
     let after = c.in-Some.after.now in
     let ended = line ++ (line_feed ∷ []) in
-    let cut = append_assoc done ended after ∙ ap (λ v. done ++ v) (append_assoc line (line_feed ∷ []) after ∙ sym c.in-Some.ensures.1) ∙ c.loop-line.invariant.2 in (
+    let cut = append_assoc done ended after ∙ ap (λ v. done ++ v) (append_assoc line (line_feed ∷ []) after ∙ sym c.in-Some.ensures.1) ∙ c.loop-line.invariant.1 in (
       done ++ ended,
-      c.end_line.ensures.kept,
       cut,
       λ start xs fed.
           subst (λ (ys : List ℕ). Fed g.S.RecordSink start ys c.end_line.new.self) (append_assoc xs done ended)
-          (fed_line g.S.RecordSink start (xs ++ done) line c.loop-line.self c.end_line.new.self c.in-Some.ensures.0 c.end_line.ensures.kept c.end_line.ensures.taken
-          (c.loop-line.invariant.3 start xs fed)),
+          (fed_line g.S.RecordSink start (xs ++ done) line c.loop-line.self c.end_line.new.self c.in-Some.ensures.0 c.end_line.ensures.taken
+          (c.loop-line.invariant.2 start xs fed)),
     )
 
-pub returns-clause-fed : goal.returns-clause-fed
-returns-clause-fed g c start xs fed =
-    let done = c.loop-line.invariant.0 in
-    let rest = c.loop-line.rest.now in
-    subst (λ (ys : List ℕ). Fed g.S.RecordSink start ys c.hold.new.self) (append_assoc xs done rest ∙ ap (λ v. xs ++ v) c.loop-line.invariant.2)
-    (fed_on g.S.RecordSink start (xs ++ done) rest c.loop-line.self c.hold.new.self c.in_default.ensures c.hold.ensures.same c.hold.ensures.held
-    (c.loop-line.invariant.3 start xs fed))
+pub returns : goal.returns
+returns g c = record {
+  fed = λ start xs fed.
+      let done = c.loop-line.invariant.0 in
+      let rest = c.loop-line.rest.now in
+      subst (λ (ys : List ℕ). Fed g.S.RecordSink start ys c.hold.new.self) (append_assoc xs done rest ∙ ap (λ v. xs ++ v) c.loop-line.invariant.1)
+      (fed_on g.S.RecordSink start (xs ++ done) rest c.loop-line.self c.hold.new.self c.in_default.ensures c.hold.ensures.same c.hold.ensures.held
+      (c.loop-line.invariant.2 start xs fed));
+}

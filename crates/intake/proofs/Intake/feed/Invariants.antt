@@ -6,7 +6,6 @@ use Rattle.intake.proofs.Intake.feed.Given as goal
 abbrev pub invariant-loop-line : goal.invariant-loop-line
 invariant-loop-line g l =
     (done : List ℕ)
-    × g.S.RecordSink.kept l.self.sink
     × (done ++ l.rest ≡ l.piece)
     × ((start : g.row.S.Denot) (xs : List ℕ) → Fed g.S.RecordSink start xs l.initial.self → Fed g.S.RecordSink start (xs ++ done) l.self)
 

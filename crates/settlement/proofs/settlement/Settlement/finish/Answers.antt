@@ -14,7 +14,6 @@ returns g c =
     ∙ ap (λ k. take_all k (model g.L.RowStore g.D.RowStore h.first.statement) (records_of xs)) h.handed
     ∙ ap (λ m. take_all b m (records_of xs)) h.began in
     record {
-      kept = c.finish-statement.ensures.kept;
       settled = settled;
       reached = λ start b xs a h r. subst (λ m. Reaches m (account_all b start a (records_of xs))) (sym (settled start b xs h)) (reached_all b start a (records_of xs) r);
     }

@@ -6,7 +6,6 @@ use Rattle.settlement.proofs.taker.TakerRecordSink.take_overlong.Goals as goal
 
 pub returns : goal.returns
 returns g c = record {
-  kept = c.take.ensures.kept;
   takes = λ bs long. (
     c.take.ensures.after
         ∙ lengths_alike (model g.L.RowStore g.D.RowStore c.args.self.now.statement) (book_of g.B.TariffBook c.args.self.now.book) [] bs (λ e. omega arith) (λ e. omega arith),
