@@ -14,9 +14,9 @@ use book::TariffBook;
 use cdr::call::CallRecord;
 use faults::RatingFault;
 use tenths::{Rated, Tenths};
-use values::calendar::{Duration, Month};
+use values::calendar::Duration;
 use values::rates::Scenario;
-use values::terms::Terms;
+use values::terms::Basis;
 
 // The tenths of a minute that a call of this duration is charged, or none where it does not count.
 pub fn tenths_of(scenario: Scenario, duration: Duration) -> Option<Tenths>
@@ -33,17 +33,16 @@ pub fn tenths_of(scenario: Scenario, duration: Duration) -> Option<Tenths>
     })
 }
 
-// The tariff and tenths of a call by a book, under these terms, for a reference month.
+// The tariff and tenths of a call by a book, on this basis.
 #[tactic(auto, unfolding(crate::specs::Rating::rated_by))]
 pub fn rate<B: TariffBook>(
     book: &B,
-    terms: Terms,
-    reference: Month,
+    basis: Basis,
     call: &CallRecord,
 ) -> Result<Rated, RatingFault>
-    ensures { result ≡ rated_by (book_of B.TariffBook book.now) terms reference call.now }
+    ensures { result ≡ rated_by (book_of B.TariffBook book.now) basis.terms basis.reference call.now }
 {
-    if !call.day.month().is_within(reference, terms.months_back()) {
+    if !basis.admits(call.day.month()) {
         return Err(RatingFault::Month);
     }
     let scenario = book

@@ -15,8 +15,7 @@ use ledger::line::LineRow;
 use ledger::store::RowStore;
 use rating::book::TariffBook;
 use statement::statement::Statement;
-use values::calendar::Month;
-use values::terms::Terms;
+use values::terms::Basis;
 
 #[derive(Drop)]
 pub struct Settlement<L: RowStore<Row = LineRow>, D: RowStore<Row = DayRow>, B> {
@@ -29,12 +28,12 @@ impl<L: RowStore<Row = LineRow>, D: RowStore<Row = DayRow>, B: TariffBook + Drop
     B,
 > {
     // Nothing read yet.
-    pub fn open(terms: Terms, reference: Month, lines: L, days: D, book: B) -> Self
+    pub fn open(basis: Basis, lines: L, days: D, book: B) -> Self
         requires lines { StoreKept line_keys (L.RowStore.ledger lines) (L.RowStore.kept lines) }
         requires days { StoreKept day_keys (D.RowStore.ledger days) (D.RowStore.kept days) }
-        ensures began { Settling L.RowStore D.RowStore B.TariffBook (opened terms reference (L.RowStore.ledger lines).most (D.RowStore.ledger days).most) (book_of B.TariffBook book) [] result }
+        ensures began { Settling L.RowStore D.RowStore B.TariffBook (opened basis.terms basis.reference (L.RowStore.ledger lines).most (D.RowStore.ledger days).most) (book_of B.TariffBook book) [] result }
     {
-        let statement = Statement::open(terms, reference, lines, days);
+        let statement = Statement::open(basis, lines, days);
         Settlement {
             intake: Intake::new(Taker { statement, book }),
         }

@@ -37,8 +37,8 @@ pub record Model : Type 0 where
 module _ {L D : Type 0} (line_store : RowStore.Ghosts L LineRow LineKey) (day_store : RowStore.Ghosts D DayRow DayKey) where
   abbrev pub model : {line_row : Row.Ghosts LineRow LineKey} {day_row : Row.Ghosts DayRow DayKey} → Statement L D line_store line_row day_store day_row → Model
   model s = record {
-    terms = s.terms;
-    reference = s.reference;
+    terms = s.basis.terms;
+    reference = s.basis.reference;
     lines = line_store.ledger s.lines;
     days = day_store.ledger s.days;
     taken = s.taken;

@@ -10,16 +10,14 @@ use crate::board::RefusalBoard;
 use ledger::day::DayRow;
 use ledger::line::LineRow;
 use ledger::store::RowStore;
-use values::calendar::Month;
-use values::terms::Terms;
+use values::terms::Basis;
 
 // The most records that a statement takes.
 pub const MOST_TAKEN: u32 = 2_000_000;
 
 #[derive(Drop)]
 pub struct Statement<L: RowStore<Row = LineRow>, D: RowStore<Row = DayRow>> {
-    terms: Terms,
-    reference: Month,
+    basis: Basis,
     lines: L,
     days: D,
     taken: u32,

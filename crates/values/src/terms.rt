@@ -4,6 +4,7 @@ mod agreed;
 ghost use Rattle.std.specs.Prelude.{◌≤◌};
 ghost use Rattle.values.specs.Rates.{IsCarrier};
 
+use crate::calendar::Month;
 use crate::rates::TaxRates;
 
 // A carrier by its code, 001 to 999.
@@ -21,4 +22,11 @@ pub struct Terms {
     back: u8,
     rates: TaxRates,
     ghost ok: { back ≤ 2 },
+}
+
+// What a settlement stands on: the terms, and the month that its DETRAF refers to.
+#[derive(Clone, Copy, PartialEq, Eq)]
+pub struct Basis {
+    pub terms: Terms,
+    pub reference: Month,
 }

@@ -22,7 +22,7 @@ impl<L: RowStore<Row = LineRow>, D: RowStore<Row = DayRow>> Statement<L, D> {
         ensures receiver { self.new ≡ self.old }
         ensures giver { giver.new ≡ giver.old }
     {
-        if self.terms != giver.terms || self.reference != giver.reference {
+        if self.basis != giver.basis {
             return Err(JoinFault::Unlike);
         }
         if self.taken + giver.taken > MOST_TAKEN {

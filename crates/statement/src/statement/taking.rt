@@ -17,22 +17,20 @@ use ledger::line::LineRow;
 use ledger::store::{RowStore, room};
 use rating::book::TariffBook;
 use rating::rate;
-use values::calendar::Month;
-use values::terms::Terms;
+use values::terms::Basis;
 
 impl<L: RowStore<Row = LineRow>, D: RowStore<Row = DayRow>> Statement<L, D> {
     // Over the two stores, which it clears.
-    pub fn open(terms: Terms, reference: Month, mut lines: L, mut days: D) -> Self
+    pub fn open(basis: Basis, mut lines: L, mut days: D) -> Self
         requires lines { StoreKept line_keys (L.RowStore.ledger lines) (L.RowStore.kept lines) }
         requires days { StoreKept day_keys (D.RowStore.ledger days) (D.RowStore.kept days) }
-        ensures model { model L.RowStore D.RowStore result ≡ opened terms reference (L.RowStore.ledger lines).most (D.RowStore.ledger days).most }
+        ensures model { model L.RowStore D.RowStore result ≡ opened basis.terms basis.reference (L.RowStore.ledger lines).most (D.RowStore.ledger days).most }
         ensures reached { Reaches (model L.RowStore D.RowStore result) [] }
     {
         lines.clear();
         days.clear();
         Statement {
-            terms,
-            reference,
+            basis,
             lines,
             days,
             taken: 0,
@@ -59,7 +57,7 @@ impl<L: RowStore<Row = LineRow>, D: RowStore<Row = DayRow>> Statement<L, D> {
     {
         let call = cdr::read(bytes)?;
         let rated = charge_to(
-            rate(book, self.terms, self.reference, &call),
+            rate(book, self.basis, &call),
             call.sequential,
         )?;
         let posting = Posting::new(&call, rated);

@@ -9,20 +9,14 @@ use crate::board::RefusalBoard;
 use ledger::day::{DayKey, DayRow};
 use ledger::line::{LineKey, LineRow};
 use ledger::store::RowStore;
-use values::calendar::Month;
-use values::terms::Terms;
+use values::terms::Basis;
 
 impl<L: RowStore<Row = LineRow>, D: RowStore<Row = DayRow>> Statement<L, D> {
-    pub fn terms(&self) -> Terms
-        ensures { result ≡ (model L.RowStore D.RowStore self.now).terms }
+    pub fn basis(&self) -> Basis
+        ensures terms { result.terms ≡ (model L.RowStore D.RowStore self.now).terms }
+        ensures reference { result.reference ≡ (model L.RowStore D.RowStore self.now).reference }
     {
-        self.terms
-    }
-
-    pub fn reference(&self) -> Month
-        ensures { result ≡ (model L.RowStore D.RowStore self.now).reference }
-    {
-        self.reference
+        self.basis
     }
 
     // How many records were taken.

@@ -17,6 +17,6 @@ impl<L: RowStore<Row = LineRow>, D: RowStore<Row = DayRow>> Statement<L, D> {
         ensures after { out.new ≡ after_of (model L.RowStore D.RowStore self.old).terms (model L.RowStore D.RowStore self.old).reference (model L.RowStore D.RowStore self.old).lines.rows out.old }
         ensures same { self.new ≡ self.old }
     {
-        write_file(&mut self.lines, self.terms, self.reference, out)
+        write_file(&mut self.lines, self.basis, out)
     }
 }

@@ -1,9 +1,11 @@
 // Carriers and terms are made after a check.
 ghost use Rattle.std.specs.Prelude.{◌≡◌};
 ghost use Rattle.std.proofs.Common.{rules};
+ghost use Rattle.values.specs.Calendar.{in_window};
 ghost use Rattle.values.specs.Values.{carrier_of, terms_of};
 
-use super::{Carrier, Terms};
+use super::{Basis, Carrier, Terms};
+use crate::calendar::Month;
 use crate::decimal::Decimal;
 use crate::rates::TaxRates;
 
@@ -79,5 +81,14 @@ impl Terms {
         ensures { result ≡ self.rates }
     {
         self.rates
+    }
+}
+
+impl Basis {
+    // Whether the month may still be billed: it is the reference month, or one of so many before it as the terms say.
+    pub fn admits(self, month: Month) -> bool
+        ensures { result ≡ in_window self.reference.number self.terms.back month.number }
+    {
+        month.is_within(self.reference, self.terms.back)
     }
 }

@@ -13,16 +13,16 @@ returns g c =
     let days = poured_fits day_keys day_order join_days day_joins (g.D.RowStore.ledger r.days) (g.E.RowStore.ledger given.days).rows r.kept.days.rising c.requires.days in
     record {
       receiver = λ i. record {
-        terms = r.terms;
-        reference = r.reference;
+        terms = r.basis.terms;
+        reference = r.basis.reference;
         lines = (c.pour.ensures.poured ∙ lines) i;
         days = (c.pour-2.ensures.poured ∙ days) i;
         taken = r.taken + given.taken;
         board = c.join.ensures i;
       };
       giver = λ i. record {
-        terms = given.terms;
-        reference = given.reference;
+        terms = given.basis.terms;
+        reference = given.basis.reference;
         lines = c.pour.ensures.cleared i;
         days = c.pour-2.ensures.cleared i;
         taken = 0;
