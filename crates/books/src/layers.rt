@@ -11,10 +11,10 @@ use rating::book::TariffBook;
 use rating::faults::RatingFault;
 use rating::rate;
 use rating::tenths::Rated;
-use values::calendar::{Day, Month};
+use values::calendar::Day;
 use values::labels::{Descriptor, Point};
 use values::rates::Tariff;
-use values::terms::Terms;
+use values::terms::Basis;
 
 // The tariff through two layers over any book: the upper layer replaces the point, and the lower one what it became.
 pub fn tariff_through_two<B: TariffBook>(
@@ -32,11 +32,10 @@ pub fn tariff_through_two<B: TariffBook>(
 // Rates a call by two layers over a flat book.
 pub fn rate_by_layers(
     book: &Correlation<Correlation<FlatBook>>,
-    terms: Terms,
-    reference: Month,
+    basis: Basis,
     call: &CallRecord,
 ) -> Result<Rated, RatingFault>
-    ensures { result ≡ rated_by (correlated_tables (pairs_of book.now) (correlated_tables (pairs_of book.now.below) (flat_tables (entries_of book.now.below.below)))) terms reference call.now }
+    ensures { result ≡ rated_by (correlated_tables (pairs_of book.now) (correlated_tables (pairs_of book.now.below) (flat_tables (entries_of book.now.below.below)))) basis.terms basis.reference call.now }
 {
-    rate(book, terms, reference, call)
+    rate(book, basis, call)
 }

@@ -15,22 +15,14 @@ use ledger::store::Full;
 // The digits of the count.
 const COUNT_WIDTH: usize = 7;
 
-// The row's bytes at an index, in rows of this width.
-fn fill_slot<R: ImageRow>(bytes: &mut [u8], width: usize, i: usize, row: R)
-    requires width { width ≡ R.ImageRow.WIDTH }
-    requires room { 7 + width * i + width ≤ length bytes.old }
-    ensures { bytes.new ≡ written (7 + R.ImageRow.WIDTH * i) (R.ImageRow.bytes_of row) bytes.old }
-{
-    let start = COUNT_WIDTH + width * i;
-    row.write_row(&mut bytes[start..start + width]);
-}
-
 // The row's bytes at an index.
 fn write_slot<R: ImageRow>(bytes: &mut [u8], i: usize, row: R)
     requires { i < whole_in R.ImageRow.WIDTH bytes.old }
     ensures { bytes.new ≡ written (7 + R.ImageRow.WIDTH * i) (R.ImageRow.bytes_of row) bytes.old }
 {
-    fill_slot(bytes, R::WIDTH, i, row);
+    let width = R::WIDTH;
+    let start = COUNT_WIDTH + width * i;
+    row.write_row(&mut bytes[start..start + width]);
 }
 
 // Joins the row to the one at an index.

@@ -14,11 +14,7 @@ fn held<S: RowStore>(store: &mut S, row: S::Row) -> u128
     ensures answer { result ≡ (if holds S.Row.Row.keys (S.Row.Row.keys.key_of row) (S.RowStore.ledger store.old).rows then 1 else 0) }
     ensures same { store.new ≡ store.old }
 {
-    if store.find(row.key()).is_some() {
-        1
-    } else {
-        0
-    }
+    u128::from(store.find(row.key()).is_some())
 }
 
 // How many rows the receiver has once it has the giver's rows too: those of both, less those that both have.
