@@ -1,6 +1,7 @@
 -- Rows in their order of arrival, where as many keys are held as rows arrived: what is found among them, and what one more row makes of them.
 use Rattle.std.proofs.Common.{◌≡◌, ℕ, zero, suc, ◌+◌, ◌<◌, ◌≤◌, Bool, true, false, cond, List, length, is_some, IfSome, Some, None, Option, Ordering, Less, Equal, Greater, sym, refl, ap, ◌∙◌, subst, ⊎_elim, arith}
 use Rattle.std.proofs.lemmas.Bool.{cases_Bool, cases_lt, cond-true, cond-false, false≢true}
+use Rattle.std.specs.List.{fold, range_with_len}
 use Rattle.std.specs.Option.{option_or}
 use Rattle.std.specs.Ordering.{is_eq}
 use Rattle.values.specs.Checked.{and_then}
@@ -10,6 +11,12 @@ use Rattle.ledger.specs.Ledgers.{by_order_lem, none≢some, length_put, find_put
 use Rattle.images.specs.Arrivals.{first_at, put_one, arrived, place_of, is_fault, first_fault}
 use Rattle.images.proofs.Arrived.{arrived_rising, place_holds, first_within}
 use Rattle.imagestore.specs.Images.{next_with}
+
+-- a fold over a range of numbers goes through the states that each step leads to
+fold_range : {B : Type 0} (step : B → ℕ → B) (state : ℕ → B) → ((i : ℕ) → step (state i) i ≡ state (i + 1)) → (a n : ℕ) → fold step (state a) (range_with_len a n) ≡ state (a + n)
+fold_range step state on a zero = ap state (omega arith)
+fold_range step state on a (suc n) =
+    ap (λ x. fold step x (range_with_len (a + 1) n)) (on a) ∙ (fold_range step state on (a + 1) n ∙ ap state (omega arith))
 
 -- an index that a search gave passes its test
 pub first_passes : (test : ℕ → Bool) (n i : ℕ) → first_at test n ≡ Some i → test i ≡ true
@@ -136,6 +143,12 @@ module _ {K R : Type 0} (o : KeyOps K R) (laws : OrderLaws o) (join : R → R �
         by : (v : Option R) → next_row o after (put_one o join v (rows n)) ≡ next_with o join after (next_row o after (rows n)) v
         by None = refl
         by (Some h) = next_put o laws join joins after h (rows n)
+
+    -- the next row, as a fold over the places of n rows makes it
+    pub next_folded : (after : Option K) (n : ℕ) → fold (λ best i. next_with o join after best (at i)) None (range_with_len 0 n) ≡ next_row o after (rows n)
+    next_folded after n =
+        let z : 0 + n ≡ n = omega arith in
+        fold_range (λ best i. next_with o join after best (at i)) (λ i. next_row o after (rows i)) (λ i. sym (next_more after i)) 0 n ∙ ap (λ m. next_row o after (rows m)) z
 
   -- rows that are the same make the same ledger
   pub arrived_same : (at new : ℕ → Option R) (n : ℕ) → ((j : ℕ) → j < n → new j ≡ at j) → arrived o join new n ≡ arrived o join at n

@@ -61,11 +61,10 @@ fn next_with<R: ImageRow>(after: &Option<R::Key>, best: Option<R>, row: Option<R
 fn next_of<R: ImageRow>(bytes: &[u8], count: usize, after: &Option<R::Key>) -> Option<R>
     ensures { result ≡ next_row R.Row.keys after.now (arrived R.Row.keys R.Row.joined (row_at R.ImageRow.own bytes.now) count) }
 {
-    let mut best: Option<R> = None;
-    for i in 0..count {
-        best = next_with::<R>(after, best, row_at::<R>(bytes, i));
-    }
-    best
+    (0..count).fold(
+        None,
+        |best, i| next_with::<R>(after, best, row_at::<R>(bytes, i)),
+    )
 }
 
 // The first row, or the first above a key.
