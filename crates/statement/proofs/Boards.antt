@@ -52,12 +52,6 @@ join_done (suc i) [] us p q = refl
 join_done (suc i) (t ∷ ts) [] p q = refl
 join_done (suc i) (t ∷ ts) (u ∷ us) p q = ap (λ l. t ∷ l) (join_done i ts us (le_of_suc-le-suc p) (le_of_suc-le-suc q))
 
-pub set_other : {A : Type 0} (xs : List A) (i j : ℕ) (v d : A) → i < j → get_or (set xs i v) j d ≡ get_or xs j d
-set_other [] i j v d l = refl
-set_other (x ∷ xs) i zero v d l = absurd (not-suc-le-zero l)
-set_other (x ∷ xs) zero (suc j) v d l = refl
-set_other (x ∷ xs) (suc i) (suc j) v d l = set_other xs i j v d (le_of_suc-le-suc l)
-
 tally_same : (c d l m : ℕ) → c ≡ d → l ≡ m → ◌≡◌ {A = Tally} (record { count = c; least = l }) (record { count = d; least = m })
 tally_same c d l m e f = λ i. record { count = e i; least = f i }
 

@@ -9,8 +9,9 @@ pub const LEAST_NUMBER: u8 = 2;
 
 pub const GREATEST_NUMBER: u8 = 13;
 
-// How many records a number refused, and the least sequential among them, 0 for none.
-#[derive(Clone, Copy, PartialEq, Eq, Debug)]
+// How many records a number refused, and the least sequential among them. The board holds plain numbers, as they are
+// printed, so 0 stands for none.
+#[derive(Clone, Copy, PartialEq, Eq, Default, Debug)]
 pub struct Tally {
     pub count: u32,
     pub least: u64,
@@ -20,12 +21,9 @@ pub struct Tally {
 fn lesser(a: u64, b: u64) -> u64
     ensures { result ≡ lesser_of a b }
 {
-    if a == 0 {
-        b
-    } else if b == 0 {
-        a
-    } else {
-        a.min(b)
+    match (a, b) {
+        (0, other) | (other, 0) => other,
+        _ => a.min(b),
     }
 }
 
@@ -49,19 +47,18 @@ impl Tally {
     }
 }
 
-// Place by place.
-fn join_tallies(mine: [Tally; NUMBERS], theirs: [Tally; NUMBERS]) -> [Tally; NUMBERS]
-    requires { (i : ℕ) → (slice_index_or mine i no_tally).count + (slice_index_or theirs i no_tally).count < 2 ^ 32 }
-    ensures { result ≡ each_joined mine theirs }
+// Number by number.
+fn join_tallies(mine: &mut [Tally; NUMBERS], theirs: [Tally; NUMBERS])
+    requires { (i : ℕ) → (slice_index_or mine.old i no_tally).count + (slice_index_or theirs i no_tally).count < 2 ^ 32 }
+    ensures { mine.new ≡ each_joined mine.old theirs }
 {
-    let mut both = mine;
-    for i in 0..NUMBERS {
-        both[i].join(theirs[i]);
+    // By a place, since after a loop over `mine.iter_mut().zip(theirs)` a proof knows no element of `mine`.
+    for (i, tally) in mine.iter_mut().enumerate() {
+        tally.join(theirs[i]);
     }
-    both
 }
 
-#[derive(Clone, Copy)]
+#[derive(Clone, Copy, PartialEq, Eq, Default, Debug)]
 pub struct RefusalBoard {
     tallies: [Tally; NUMBERS],
 }
@@ -71,19 +68,15 @@ impl RefusalBoard {
     pub fn new() -> Self
         ensures { result ≡ clear_board }
     {
-        RefusalBoard {
-            tallies: [Tally { count: 0, least: 0 }; NUMBERS],
-        }
+        Self::default()
     }
 
     // The tally of a number, or none where the board has no such number.
     pub fn tally(&self, number: u8) -> Option<Tally>
         ensures { result ≡ tally_of self.now number }
     {
-        if number < LEAST_NUMBER || number > GREATEST_NUMBER {
-            return None;
-        }
-        Some(self.tallies[number as usize - 2])
+        let place = number.checked_sub(LEAST_NUMBER)?;
+        self.tallies.get(usize::from(place)).copied()
     }
 
     // One refusal more under a number.
@@ -93,7 +86,7 @@ impl RefusalBoard {
         requires room { (tally_at self.old (number - 2)).count + 1 < 2 ^ 32 }
         ensures { self.new ≡ noted self.old number sequential }
     {
-        self.tallies[number as usize - 2].note(sequential);
+        self.tallies[usize::from(number - LEAST_NUMBER)].note(sequential);
     }
 
     // The refusals of another board too, number by number.
@@ -101,6 +94,6 @@ impl RefusalBoard {
         requires { (i : ℕ) → (tally_at self.old i).count + (tally_at other i).count < 2 ^ 32 }
         ensures { self.new ≡ boards_joined self.old other }
     {
-        self.tallies = join_tallies(self.tallies, other.tallies);
+        join_tallies(&mut self.tallies, other.tallies);
     }
 }

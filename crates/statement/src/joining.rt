@@ -19,8 +19,7 @@ impl JoinFault {
         match self {
             JoinFault::Unlike => 14,
             JoinFault::TooMany => 15,
-            JoinFault::Lines => 16,
-            JoinFault::Days => 16,
+            JoinFault::Lines | JoinFault::Days => 16,
         }
     }
 
@@ -29,8 +28,7 @@ impl JoinFault {
         ensures { result ≡ join_rows self }
     {
         match self {
-            JoinFault::Unlike => None,
-            JoinFault::TooMany => None,
+            JoinFault::Unlike | JoinFault::TooMany => None,
             JoinFault::Lines => Some(1),
             JoinFault::Days => Some(2),
         }

@@ -9,7 +9,7 @@ use ledger::traffic::Traffic;
 use rating::tenths::{Rated, Tenths};
 use values::calendar::{Day, TimeOfDay};
 
-#[derive(Clone, Copy)]
+#[derive(Clone, Copy, PartialEq, Eq)]
 pub struct Posting {
     key: LineKey,
     day: Day,
@@ -18,7 +18,7 @@ pub struct Posting {
 }
 
 // What a booked record answers: the key of its line, its day and its tenths.
-#[derive(Clone, Copy)]
+#[derive(Clone, Copy, PartialEq, Eq)]
 pub struct Booked {
     pub key: LineKey,
     pub day: Day,

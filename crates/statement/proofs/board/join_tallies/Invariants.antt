@@ -6,6 +6,6 @@ use Rattle.statement.proofs.board.join_tallies.Given as goal
 -- what is left to join gives the same, and is as it was
 abbrev pub invariant-loop-i : goal.invariant-loop-i
 invariant-loop-i l =
-    (join_from l.i l.both l.theirs ≡ each_joined l.initial.both l.theirs)
-    × ((j : ℕ) → l.i ≤ j → get_or l.both j no_tally ≡ get_or l.initial.both j no_tally)
-    × (length l.both ≡ 12)
+    (join_from l.i l.mine l.theirs ≡ each_joined l.initial.mine l.theirs)
+    × ((j : ℕ) → l.i ≤ j → get_or l.mine j no_tally ≡ get_or l.initial.mine j no_tally)
+    × (length l.mine ≡ 12)

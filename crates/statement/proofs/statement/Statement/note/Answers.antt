@@ -1,5 +1,3 @@
-use Rattle.std.proofs.Common.{rules}
-use Rattle.statement.proofs.Boards.{noted_counts}
 use Rattle.statement.proofs.statement.Statement.note.Goals as goal
 
 pub returns : goal.returns

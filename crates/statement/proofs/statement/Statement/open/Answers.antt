@@ -1,6 +1,5 @@
-use Rattle.std.proofs.Common.{◌≡◌, arith}
+use Rattle.std.proofs.Common.{◌≡◌}
 use Rattle.statement.specs.Statement.{Model, opened}
-use Rattle.statement.proofs.Boards.{clear_counts}
 use Rattle.statement.proofs.Reached.{reached_opening}
 use Rattle.statement.proofs.statement.Statement.open.Goals as goal
 

@@ -1,8 +1,8 @@
-use Rattle.std.proofs.Common.{◌+◌, ◌∙◌, arith}
+use Rattle.std.proofs.Common.{◌+◌, ◌∙◌}
 use Rattle.ledger.specs.Rows.{line_keys, join_lines, day_keys, join_days}
 use Rattle.ledger.specs.RowLaws.{line_order, line_joins, day_order, day_joins}
 use Rattle.merging.proofs.Sizes.{poured_fits}
-use Rattle.statement.proofs.Boards.{clear_counts, joined_counts}
+use Rattle.statement.proofs.Boards.{joined_counts}
 use Rattle.statement.proofs.statement.Statement.unite.Goals as goal
 
 pub returns : goal.returns
