@@ -16,33 +16,31 @@ use ledger::line::LineRow;
 use ledger::store::RowStore;
 use rating::book::TariffBook;
 use statement::statement::Statement;
-use values::calendar::Month;
-use values::terms::Terms;
+use values::terms::Basis;
 
 // Whether a file's parties and reference month are these.
-fn is_like(terms: Terms, reference: Month, head: Head) -> bool
-    ensures { result ≡ is_like terms reference head }
+fn is_like(basis: Basis, head: Head) -> bool
+    ensures { result ≡ is_like basis.terms basis.reference head }
 {
     let own = Head {
-        creditor: terms.creditor().code(),
-        debtor: terms.debtor().code(),
-        reference: reference.number(),
+        creditor: basis.terms.creditor().code(),
+        debtor: basis.terms.debtor().code(),
+        reference: basis.reference.number(),
     };
     head == own
 }
 
 // Refuses a file of other parties or another month, and a buffer of less than so many bytes.
 fn admit(
-    terms: Terms,
-    reference: Month,
+    basis: Basis,
     head: Head,
     count: usize,
     room: usize,
 ) -> Result<(), ContestFault>
-    ensures value { result ≡ admitted terms reference head count room }
+    ensures value { result ≡ admitted basis.terms basis.reference head count room }
     ensures fits { OnOk result (count ≤ room) }
 {
-    if !is_like(terms, reference, head) {
+    if !is_like(basis, head) {
         return Err(ContestFault::Unlike);
     }
     if room < count {
@@ -53,18 +51,17 @@ fn admit(
 
 // Writes the verdicts of the detail lines, in the order of the lines, from the buffer's start.
 fn write_verdicts<B: TariffBook>(
-    terms: Terms,
-    reference: Month,
+    basis: Basis,
     book: &B,
     file: Declared<'_>,
     out: &mut [u8],
 )
     requires { length (details (seen_file file)) ≤ length out.old }
-    ensures { out.new ≡ written 0 (verdict_bytes (book_of B.TariffBook book.now) terms reference (seen_file file.entry)) out.old }
+    ensures { out.new ≡ written 0 (verdict_bytes (book_of B.TariffBook book.now) basis.terms basis.reference (seen_file file.entry)) out.old }
 {
     // By index: of a buffer whose slots a `zip` lent for writing nothing is known afterwards.
     for (i, line) in file.details().enumerate() {
-        out[i] = judge(terms, reference, book, line).code();
+        out[i] = judge(basis, book, line).code();
     }
 }
 
@@ -80,10 +77,9 @@ pub fn contest<L: RowStore<Row = LineRow>, D: RowStore<Row = DayRow>, B: TariffB
     ensures after { out.new ≡ contest_after (book_of B.TariffBook book.now) (model L.RowStore D.RowStore statement.now).terms (model L.RowStore D.RowStore statement.now).reference (read_file bytes.now) out.old }
 {
     let file = read(bytes)?;
-    let terms = statement.terms();
-    let reference = statement.reference();
+    let basis = statement.basis();
     let count = file.detail_count();
-    admit(terms, reference, file.head(), count, out.len())?;
-    write_verdicts(terms, reference, book, file, out);
+    admit(basis, file.head(), count, out.len())?;
+    write_verdicts(basis, book, file, out);
     Ok(count)
 }

@@ -8,7 +8,7 @@ use Rattle.verdicts.proofs.contesting.contest.Goals as goal
 pub returns-in_err-admit : goal.returns-in_err-admit
 returns-in_err-admit g c =
     let p = err_from_is_err_and c.from_residual-in_err-admit.result c.from_residual-in_err-admit.ensures.1 in
-    let a = asks c.args.out.now (seen_file c.in_ok-file.file) c.in_ok-file.ensures.value c.terms-terms.ensures c.reference-reference.ensures c.head.ensures c.detail_count-count.ensures in
+    let a = asks c.args.out.now (seen_file c.in_ok-file.file) c.in_ok-file.ensures.value c.basis-basis.ensures.terms c.basis-basis.ensures.reference c.head.ensures c.detail_count-count.ensures in
     record {
       answer = rw (p.1, p.2) (refused_answer a _ c.in_err-admit.ensures.value);
       after = refused_after a _ c.in_err-admit.ensures.value (book_of g.B.TariffBook c.args.book.now);
@@ -22,7 +22,7 @@ write_verdicts-requires g c =
 
 pub returns : goal.returns
 returns g c =
-    let a = asks c.args.out.now (seen_file c.in_ok-file.file) c.in_ok-file.ensures.value c.terms-terms.ensures c.reference-reference.ensures c.head.ensures c.detail_count-count.ensures in
+    let a = asks c.args.out.now (seen_file c.in_ok-file.file) c.in_ok-file.ensures.value c.basis-basis.ensures.terms c.basis-basis.ensures.reference c.head.ensures c.detail_count-count.ensures in
     record {
       answer = given_answer a c.in_ok-admit.ensures.value;
       after = given_after a c.in_ok-admit.ensures.value (book_of g.B.TariffBook c.args.book.now) c.write_verdicts.new.out c.write_verdicts.ensures;

@@ -16,4 +16,4 @@ invariant-loop-i g l =
     (goal.iterator-loop-i g).can_next l.i-iterator
     × (goal.iterator-loop-i g).is_finite l.i-iterator
     × (at + length left ≤ length l.out)
-    × (written at (map (verdict_byte book l.terms l.reference) left) l.out ≡ written 0 (verdict_bytes book l.terms l.reference (seen_file l.file)) l.initial.out)
+    × (written at (map (verdict_byte book l.basis.terms l.basis.reference) left) l.out ≡ written 0 (verdict_bytes book l.basis.terms l.basis.reference (seen_file l.file)) l.initial.out)
