@@ -149,8 +149,7 @@ fn print_months<L: RowStore<Row = LineRow>, D: RowStore<Row = DayRow>>(
     rt: &HostRuntime,
     statement: &mut Statement<L, D>,
     file: Declared<'_>,
-) -> anyhow::Result<(usize, usize)>
-{
+) -> anyhow::Result<(usize, usize)> {
     let mut months: usize = 0;
     let mut contestable: usize = 0;
     for back in BACK {
@@ -217,8 +216,7 @@ pub fn report<L: RowStore<Row = LineRow>, D: RowStore<Row = DayRow>>(
     statement: &mut Statement<L, D>,
     book: &FileBook,
     bytes: &[u8],
-) -> anyhow::Result<ExitCode>
-{
+) -> anyhow::Result<ExitCode> {
     let mut verdicts = vec![in rt.alloc(); 0u8; bytes.len() / LINE_WIDTH]?;
     let count = match contest(statement, book, bytes, &mut verdicts) {
         Ok(count) => count,

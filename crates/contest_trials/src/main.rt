@@ -111,8 +111,7 @@ fn show_all<L: RowStore<Row = LineRow>, D: RowStore<Row = DayRow>>(
     rt: &HostRuntime,
     statement: &mut Statement<L, D>,
     book: &FileBook,
-) -> anyhow::Result<()>
-{
+) -> anyhow::Result<()> {
     let mut text = String::new(rt.alloc());
     for line in BufReader::new(rt.alloc(), rt.stdin())?.lines(rt.alloc()) {
         let line = line?;

@@ -39,8 +39,7 @@ fn take_share<L: RowStore<Row = LineRow>, D: RowStore<Row = DayRow>>(
     book: &FileBook,
     records: &Records<'_>,
     share: Share,
-)
-{
+) {
     for i in 0..records.count() {
         if share.units > 0 && i % share.units == share.unit {
             let _ = statement.take(book, records.at(i));
@@ -53,8 +52,7 @@ fn take_reversed<L: RowStore<Row = LineRow>, D: RowStore<Row = DayRow>>(
     statement: &mut Statement<L, D>,
     book: &FileBook,
     records: &Records<'_>,
-)
-{
+) {
     let count = records.count();
     for i in 0..count {
         let _ = statement.take(book, records.at(count.saturating_sub(i).saturating_sub(1)));
@@ -79,8 +77,7 @@ fn unite<
     rt: &HostRuntime,
     receiver: &mut Statement<L, D>,
     giver: &mut Statement<M, E>,
-) -> anyhow::Result<()>
-{
+) -> anyhow::Result<()> {
     match receiver.join(giver) {
         Ok(()) => Ok(()),
         Err(fault) => {
@@ -248,8 +245,7 @@ fn give_held<L: RowStore<Row = LineRow>, D: RowStore<Row = DayRow>>(
     book: &FileBook,
     records: &Records<'_>,
     share: Share,
-) -> anyhow::Result<()>
-{
+) -> anyhow::Result<()> {
     let mut lines = vec![in rt.alloc(); LineCell::default(); ROWS]?;
     let mut days = vec![in rt.alloc(); DayCell::default(); ROWS]?;
     give_layered(
@@ -270,8 +266,7 @@ fn give_tables<L: RowStore<Row = LineRow>, D: RowStore<Row = DayRow>>(
     book: &FileBook,
     records: &Records<'_>,
     share: Share,
-) -> anyhow::Result<()>
-{
+) -> anyhow::Result<()> {
     let mut lines = vec![in rt.alloc(); LineCell::default(); ROWS]?;
     let mut days = vec![in rt.alloc(); DayCell::default(); ROWS]?;
     let mut giver = Statement::open(

@@ -35,11 +35,7 @@ pub fn tenths_of(scenario: Scenario, duration: Duration) -> Option<Tenths>
 
 // The tariff and tenths of a call by a book, on this basis.
 #[tactic(auto, unfolding(crate::specs::Rating::rated_by))]
-pub fn rate<B: TariffBook>(
-    book: &B,
-    basis: Basis,
-    call: &CallRecord,
-) -> Result<Rated, RatingFault>
+pub fn rate<B: TariffBook>(book: &B, basis: Basis, call: &CallRecord) -> Result<Rated, RatingFault>
     ensures { result ≡ rated_by (book_of B.TariffBook book.now) basis.terms basis.reference call.now }
 {
     if !basis.admits(call.day.month()) {

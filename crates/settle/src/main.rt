@@ -34,8 +34,7 @@ const FILE: usize = 64_629;
 fn print<L: RowStore<Row = LineRow>, D: RowStore<Row = DayRow>>(
     rt: &HostRuntime,
     statement: &mut Statement<L, D>,
-) -> anyhow::Result<()>
-{
+) -> anyhow::Result<()> {
     let mut file = vec![in rt.alloc(); 0u8; FILE]?;
     let Ok(length) = declare(statement, &mut file) else {
         return Err(anyhow!("the file does not fit"));

@@ -90,8 +90,7 @@ fn add_days<L: RowStore<Row = LineRow>, D: RowStore<Row = DayRow>>(
 pub fn summary<L: RowStore<Row = LineRow>, D: RowStore<Row = DayRow>>(
     rt: &HostRuntime,
     statement: &mut Statement<L, D>,
-) -> anyhow::Result<Vec<u8>>
-{
+) -> anyhow::Result<Vec<u8>> {
     let mut text = Vec::new(rt.alloc());
     add_file(rt, statement, &mut text)?;
     add_lines(rt, statement, &mut text)?;

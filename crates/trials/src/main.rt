@@ -86,8 +86,7 @@ fn take_records<L: RowStore<Row = LineRow>, D: RowStore<Row = DayRow>>(
     rt: &HostRuntime,
     statement: &mut Statement<L, D>,
     book: &FileBook,
-) -> anyhow::Result<()>
-{
+) -> anyhow::Result<()> {
     for line in BufReader::new(rt.alloc(), rt.stdin())?.lines(rt.alloc()) {
         let line = line?;
         let answer = statement.take(book, line.as_bytes());
@@ -101,8 +100,7 @@ fn spend<L: RowStore<Row = LineRow>, D: RowStore<Row = DayRow>>(
     rt: &HostRuntime,
     statement: &mut Statement<L, D>,
     book: &FileBook,
-) -> anyhow::Result<()>
-{
+) -> anyhow::Result<()> {
     for _ in 0..MOST_TAKEN {
         if statement.taken() < MOST_TAKEN {
             let _ = statement.take(book, &[]);
@@ -118,8 +116,7 @@ fn spend<L: RowStore<Row = LineRow>, D: RowStore<Row = DayRow>>(
 fn write<L: RowStore<Row = LineRow>, D: RowStore<Row = DayRow>>(
     rt: &HostRuntime,
     statement: &mut Statement<L, D>,
-) -> anyhow::Result<()>
-{
+) -> anyhow::Result<()> {
     let mut short = [b'-'; 386];
     if let Err(fault) = statement.write_file(&mut short) {
         let number = fault.number();

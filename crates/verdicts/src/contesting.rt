@@ -31,12 +31,7 @@ fn is_like(basis: Basis, head: Head) -> bool
 }
 
 // Refuses a file of other parties or another month, and a buffer of less than so many bytes.
-fn admit(
-    basis: Basis,
-    head: Head,
-    count: usize,
-    room: usize,
-) -> Result<(), ContestFault>
+fn admit(basis: Basis, head: Head, count: usize, room: usize) -> Result<(), ContestFault>
     ensures value { result ≡ admitted basis.terms basis.reference head count room }
     ensures fits { OnOk result (count ≤ room) }
 {
@@ -50,12 +45,7 @@ fn admit(
 }
 
 // Writes the verdicts of the detail lines, in the order of the lines, from the buffer's start.
-fn write_verdicts<B: TariffBook>(
-    basis: Basis,
-    book: &B,
-    file: Declared<'_>,
-    out: &mut [u8],
-)
+fn write_verdicts<B: TariffBook>(basis: Basis, book: &B, file: Declared<'_>, out: &mut [u8])
     requires { length (details (seen_file file)) ≤ length out.old }
     ensures { out.new ≡ written 0 (verdict_bytes (book_of B.TariffBook book.now) basis.terms basis.reference (seen_file file.entry)) out.old }
 {

@@ -56,10 +56,7 @@ impl<L: RowStore<Row = LineRow>, D: RowStore<Row = DayRow>> Statement<L, D> {
         ensures after { model L.RowStore D.RowStore self.new ≡ with_found (model L.RowStore D.RowStore self.old) result }
     {
         let call = cdr::read(bytes)?;
-        let rated = charge_to(
-            rate(book, self.basis, &call),
-            call.sequential,
-        )?;
+        let rated = charge_to(rate(book, self.basis, &call), call.sequential)?;
         let posting = Posting::new(&call, rated);
         charge_to(self.place(posting.line(), posting.day()), call.sequential)?;
         Ok(posting)
