@@ -13,8 +13,7 @@ use values::labels::Point;
 
 const DAY_WIDTH: usize = 55;
 
-fn read_fields(bytes: &[u8]) -> Option<DayRow>
-    requires { length bytes.now ≡ day_width }
+fn read_fields(bytes: &[u8; DAY_WIDTH]) -> Option<DayRow>
     ensures { result ≡ day_fields_in bytes.now }
 {
     let day = Day::read(&bytes[0..8])?;
@@ -57,12 +56,12 @@ impl ImageRow for DayRow {
 
     ghost read = { day_row_read };
 
+    #[tactic(auto, unfolding(crate::specs::Fields::day_row_in))]
     fn read_row(bytes: &[u8]) -> Option<DayRow> {
-        if bytes.len() == DAY_WIDTH {
-            read_fields(bytes)
-        } else {
-            None
-        }
+        let Ok(row) = <&[u8; DAY_WIDTH]>::try_from(bytes) else {
+            return None;
+        };
+        read_fields(row)
     }
 
     fn write_row(self, out: &mut [u8]) {

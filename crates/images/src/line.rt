@@ -14,8 +14,7 @@ use values::rates::Tariff;
 
 const LINE_WIDTH: usize = 53;
 
-fn read_fields(bytes: &[u8]) -> Option<LineRow>
-    requires { length bytes.now ≡ line_width }
+fn read_fields(bytes: &[u8; LINE_WIDTH]) -> Option<LineRow>
     ensures { result ≡ line_fields_in bytes.now }
 {
     let month = Month::read(&bytes[0..6])?;
@@ -58,12 +57,12 @@ impl ImageRow for LineRow {
 
     ghost read = { line_read };
 
+    #[tactic(auto, unfolding(crate::specs::Fields::line_in))]
     fn read_row(bytes: &[u8]) -> Option<LineRow> {
-        if bytes.len() == LINE_WIDTH {
-            read_fields(bytes)
-        } else {
-            None
-        }
+        let Ok(row) = <&[u8; LINE_WIDTH]>::try_from(bytes) else {
+            return None;
+        };
+        read_fields(row)
     }
 
     fn write_row(self, out: &mut [u8]) {

@@ -1,4 +1,4 @@
-// A row that an image keeps as bytes.
+// A row that an image keeps as bytes. Lines and days have other fields in other columns, so each reads and writes its own.
 ghost use Rattle.std.specs.Prelude.{◌≡◌, ℕ, ◌<◌, List, length, if◌then◌else◌, Some, Option, nat_eq};
 
 use ledger::row::Row;

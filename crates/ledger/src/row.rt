@@ -42,6 +42,7 @@ pub trait TableRow: Row {
     // How the key in a cell stands to a key.
     ghost cell_order: { Self.Cell → Self.Key → Ordering };
 
+    // Not TryFrom and From: the laws below speak of these two.
     fn from_cell(cell: Self::Cell) -> Option<Self>
         ensures { result ≡ row_of cell };
 

@@ -7,6 +7,8 @@ use crate::search::{find_row, next_row, put_row};
 use ledger::row::{Row, TableRow};
 use ledger::store::{Full, RowStore, Size};
 
+// The cells are the caller's, and their number stands beside them: what the first of them hold is the law of the store
+// interface, true once made and kept by each call, and not an invariant of this type.
 #[derive(Drop)]
 pub struct TableStore<'a, R: TableRow> {
     cells: &'a mut [R::Cell],

@@ -1,5 +1,6 @@
 // Interconnection points and descriptors, each held as the number of its bytes in big-endian order, so that
-// the order of the numbers is the bytewise order of the texts.
+// the order of the numbers is the bytewise order of the texts. The two admit other texts and have numbers of another width:
+// what they share is a line or two in each method.
 mod descriptors;
 mod points;
 
