@@ -1,4 +1,5 @@
 // Reads a DETRAF file and prints its lines, or the refusal.
+use crate::text::Text;
 use declared::faults::Place;
 use declared::file;
 use declared::file::Declared;
@@ -10,16 +11,6 @@ const MANY: usize = 18_447;
 
 // Their sums' lowest fifteen digits, and their sums modulo 2^64.
 const TOTALS: [u64; 2] = [999_999_999_981_553, 255_926_290_429_937];
-
-// A text with its blanks as underscores.
-fn print_text(rt: &HostRuntime, text: &[u8]) -> anyhow::Result<()> {
-    for b in text {
-        let c = if *b == b' ' { '_' } else { *b as char };
-        print!(rt; "{c}")?;
-    }
-    print!(rt; " ")?;
-    Ok(())
-}
 
 fn print_figures(
     rt: &HostRuntime,
@@ -39,10 +30,11 @@ fn print_figures(
 }
 
 fn print_detail(rt: &HostRuntime, line: DetailLine<'_>) -> anyhow::Result<()> {
-    let month = line.month;
-    print!(rt; "{month} ")?;
-    print_text(rt, line.point)?;
-    print_text(rt, line.descriptor)?;
+    let point = Text { bytes: line.point };
+    let descriptor = Text {
+        bytes: line.descriptor,
+    };
+    print!(rt; "{} {point} {descriptor} ", line.month)?;
     print_figures(rt, line.calls, line.tenths, line.tariff, line.amounts)
 }
 
@@ -53,11 +45,11 @@ fn print_total(rt: &HostRuntime, line: TotalLine) -> anyhow::Result<()> {
 
 fn print_lines(rt: &HostRuntime, file: Declared<'_>) -> anyhow::Result<()> {
     let head = file.head();
-    let creditor = head.creditor;
-    let debtor = head.debtor;
-    let reference = head.reference;
     let count = file.detail_count();
-    println!(rt; "{creditor} {debtor} {reference}, {count} details")?;
+    println!(rt;
+        "{} {} {}, {count} details",
+        head.creditor, head.debtor, head.reference
+    )?;
     for i in 0..count.saturating_add(1) {
         match file.line(i) {
             Some(DeclaredLine::Detail(line)) => print_detail(rt, line)?,
