@@ -1,6 +1,6 @@
 // Reads a DETRAF file and prints its lines, or the refusal.
 use crate::text::Text;
-use declared::faults::Place;
+use declared::faults::{Place, ReadFault};
 use declared::file;
 use declared::file::Declared;
 use declared::lines::{DeclaredLine, DetailLine, TotalLine};
@@ -50,12 +50,21 @@ fn print_lines(rt: &HostRuntime, file: Declared<'_>) -> anyhow::Result<()> {
         "{} {} {}, {count} details",
         head.creditor, head.debtor, head.reference
     )?;
-    for i in 0..count.saturating_add(1) {
-        match file.line(i) {
-            Some(DeclaredLine::Detail(line)) => print_detail(rt, line)?,
-            Some(DeclaredLine::Total(line)) => print_total(rt, line)?,
-            None => {}
+    for line in (0..=count).filter_map(|i| file.line(i)) {
+        match line {
+            DeclaredLine::Detail(line) => print_detail(rt, line)?,
+            DeclaredLine::Total(line) => print_total(rt, line)?,
         }
+    }
+    Ok(())
+}
+
+fn print_fault(rt: &HostRuntime, fault: ReadFault) -> anyhow::Result<()> {
+    let number = fault.number();
+    match fault.place() {
+        Place::Length(length) => println!(rt; "refused {number} {length}")?,
+        Place::Field { line, field } => println!(rt; "refused {number} {line} {field}")?,
+        Place::Line { line } => println!(rt; "refused {number} {line} 0")?,
     }
     Ok(())
 }
@@ -63,34 +72,31 @@ fn print_lines(rt: &HostRuntime, file: Declared<'_>) -> anyhow::Result<()> {
 pub fn read(rt: &HostRuntime, bytes: &[u8]) -> anyhow::Result<()> {
     match file::read(bytes) {
         Ok(file) => print_lines(rt, file),
-        Err(fault) => {
-            let number = fault.number();
-            match fault.place() {
-                Place::Length(length) => println!(rt; "refused {number} {length}")?,
-                Place::Field { line, field } => println!(rt; "refused {number} {line} {field}")?,
-                Place::Line { line } => println!(rt; "refused {number} {line} 0")?,
-            }
-            Ok(())
-        }
+        Err(fault) => print_fault(rt, fault),
     }
 }
 
-// Files of so many lines that their sums pass 64 bits, with a total that is wrong only in what it leaves out.
-pub fn read_wide(rt: &HostRuntime) -> anyhow::Result<()> {
-    for total in TOTALS {
-        let mut text = String::new(rt.alloc());
-        for i in 0..MANY {
-            let line = format!(in rt.alloc();
-                "041187202403202403P{i:09}00 LOCN 00000000000100000000000010000000{0}{0}{0}{0}\n",
-                "999999999999999"
-            )?;
-            text.push_str(&line)?;
-        }
-        let line = format!(in rt.alloc();
-            "041187202403202403          01      {MANY:012}{MANY:013}0000000{total:015}{total:015}{total:015}{total:015}\n"
+// A file of so many lines that their sums pass 64 bits.
+fn wide_file(heap: std::alloc::Global, total: u64) -> anyhow::Result<String> {
+    let mut text = String::new(heap);
+    for i in 0..MANY {
+        let line = format!(in heap;
+            "041187202403202403P{i:09}00 LOCN 00000000000100000000000010000000{0}{0}{0}{0}\n",
+            "999999999999999"
         )?;
         text.push_str(&line)?;
-        read(rt, text.as_bytes())?;
+    }
+    let line = format!(in heap;
+        "041187202403202403          01      {MANY:012}{MANY:013}0000000{total:015}{total:015}{total:015}{total:015}\n"
+    )?;
+    text.push_str(&line)?;
+    Ok(text)
+}
+
+// Wide files with a total that is wrong only in what it leaves out.
+pub fn read_wide(rt: &HostRuntime) -> anyhow::Result<()> {
+    for total in TOTALS {
+        read(rt, wide_file(rt.alloc(), total)?.as_bytes())?;
     }
     Ok(())
 }
