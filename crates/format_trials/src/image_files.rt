@@ -96,6 +96,7 @@ where
     requires { Kept S.Row.Row.keys (S.RowStore.ledger store.old) (S.RowStore.kept store.old) }
     ensures { Kept S.Row.Row.keys (S.RowStore.ledger store.new) (S.RowStore.kept store.new) }
 {
+    // Not by `filter_map(read_row)`: the borrow checker does not cover a type parameter's method there.
     for text in <S::Row as TriedRow>::PUT {
         if let Some(row) = <S::Row as ImageRow>::read_row(text) {
             match store.put(row) {
