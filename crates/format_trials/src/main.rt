@@ -3,39 +3,36 @@
 // the last such bytes with others in their place, from AT on.
 #![tactic(auto)]
 
-mod agreements;
 mod detraf_files;
-mod hex;
 mod image_files;
+mod text;
 
 use anyhow::anyhow;
+use ledger::day::DayRow;
+use ledger::line::LineRow;
+use probes::agreements;
 use std::io::{BufRead, BufReader};
 
 fn show(rt: &HostRuntime, format: &str, bytes: &mut [u8]) -> anyhow::Result<()> {
     match format {
         "agreement" => agreements::open(rt, bytes),
-        "line" => image_files::open_lines(rt, bytes),
-        "day" => image_files::open_days(rt, bytes),
+        "line" => image_files::open::<LineRow>(rt, bytes),
+        "day" => image_files::open::<DayRow>(rt, bytes),
         "detraf" => detraf_files::read(rt, bytes),
         _ => Err(anyhow!("no such format")),
     }
 }
 
-// The bytes with others in their place, from a place on.
+// The bytes with others in their place, from a place on, as far as the bytes go.
 fn damaged(
     heap: std::alloc::Global,
     whole: &[u8],
     at: usize,
     new: &[u8],
 ) -> anyhow::Result<Vec<u8>> {
-    let mut bytes = Vec::new(heap);
-    for (i, b) in whole.iter().enumerate() {
-        let byte = if i >= at && i - at < new.len() {
-            new[i - at]
-        } else {
-            *b
-        };
-        bytes.push(byte)?;
+    let mut bytes = whole.to_vec(heap)?;
+    for (byte, put) in bytes.iter_mut().skip(at).zip(new) {
+        *byte = *put;
     }
     Ok(bytes)
 }
@@ -50,7 +47,7 @@ fn main(rt: HostRuntime) -> anyhow::Result<()> {
         else {
             return Err(anyhow!("a line has a format, a place and bytes"));
         };
-        let new = hex::decode(heap, text.as_bytes())?;
+        let new = hex::decode(heap, text)?;
         if place == "=" {
             whole = new.to_vec(heap)?;
         }

@@ -2,8 +2,6 @@
 // for two lines and two days. Standard input has the records, one to a line.
 #![tactic(auto)]
 
-ghost use Rattle.std.specs.Prelude.{◌≡◌};
-
 use agreement::book::FileBook;
 use anyhow::anyhow;
 use cdr::faults::Place;
@@ -47,34 +45,31 @@ const MONTHS: [&str; 8] = [
 ];
 
 fn show_fault(rt: &HostRuntime, fault: TakeFault) -> anyhow::Result<()> {
-    let number = fault.number();
-    let sequential = fault.sequential();
+    print!(rt; "refused {}", fault.number())?;
     match fault.place() {
-        None => println!(rt; "refused {number}, sequential {sequential}")?,
-        Some(Place::Length(length)) => println!(rt;
-            "refused {number}, length {length}, sequential {sequential}"
-        )?,
-        Some(Place::Field(field)) => println!(rt;
-            "refused {number}, field {}, sequential {sequential}",
-            field.number()
-        )?,
-        Some(Place::Column(field)) => println!(rt;
-            "refused {number}, field {}, column {}, sequential {sequential}",
+        None => {}
+        Some(Place::Length(length)) => print!(rt; ", length {length}")?,
+        Some(Place::Field(field)) => print!(rt; ", field {}", field.number())?,
+        Some(Place::Column(field)) => print!(rt;
+            ", field {}, column {}",
             field.number(),
             field.column()
         )?,
     }
+    println!(rt; ", sequential {}", fault.sequential())?;
     Ok(())
 }
 
 fn show(rt: &HostRuntime, answer: Result<Booked, TakeFault>) -> anyhow::Result<()> {
     match answer {
-        Ok(booked) => {
-            let month = booked.key.month.number();
-            let tariff = booked.key.tariff.number();
-            let day = booked.day.number();
-            let tenths = booked.tenths.count;
-            println!(rt; "booked in {month} at {tariff}, day {day}, {tenths} tenths")?;
+        Ok(Booked { key, day, tenths }) => {
+            let month = key.month.number();
+            let tariff = key.tariff.number();
+            println!(rt;
+                "booked in {month} at {tariff}, day {}, {} tenths",
+                day.number(),
+                tenths.count
+            )?;
             Ok(())
         }
         Err(fault) => show_fault(rt, fault),
@@ -101,14 +96,11 @@ fn spend<L: RowStore<Row = LineRow>, D: RowStore<Row = DayRow>>(
     statement: &mut Statement<L, D>,
     book: &FileBook,
 ) -> anyhow::Result<()> {
-    for _ in 0..MOST_TAKEN {
-        if statement.taken() < MOST_TAKEN {
-            let _ = statement.take(book, &[]);
-        }
+    for _ in statement.taken()..MOST_TAKEN {
+        let _ = statement.take(book, &[]);
     }
     let answer = statement.take(book, &[]);
-    let taken = statement.taken();
-    println!(rt; "{taken} records taken")?;
+    println!(rt; "{} records taken", statement.taken())?;
     show(rt, answer)
 }
 
@@ -119,9 +111,11 @@ fn write<L: RowStore<Row = LineRow>, D: RowStore<Row = DayRow>>(
 ) -> anyhow::Result<()> {
     let mut short = [b'-'; 386];
     if let Err(fault) = statement.write_file(&mut short) {
-        let number = fault.number();
-        let needed = fault.needed;
-        println!(rt; "refused {number}, length needed {needed}")?;
+        println!(rt;
+            "refused {}, length needed {}",
+            fault.number(),
+            fault.needed
+        )?;
     }
     let mut file = [b'-'; 390];
     if let Ok(length) = statement.write_file(&mut file) {
@@ -137,12 +131,12 @@ fn write<L: RowStore<Row = LineRow>, D: RowStore<Row = DayRow>>(
 fn show_open(rt: &HostRuntime, bytes: &[u8]) -> anyhow::Result<()> {
     match agreement::reader::open(bytes) {
         Ok(_) => println!(rt; "agreement opened")?,
-        Err(fault) => {
-            let number = fault.number();
-            let part = fault.part();
-            let row = fault.row();
-            println!(rt; "agreement refused {number}, part {part}, row {row}")?
-        }
+        Err(fault) => println!(rt;
+            "agreement refused {}, part {}, row {}",
+            fault.number(),
+            fault.part(),
+            fault.row()
+        )?,
     }
     Ok(())
 }
@@ -151,8 +145,8 @@ fn show_open(rt: &HostRuntime, bytes: &[u8]) -> anyhow::Result<()> {
 fn damage(rt: &HostRuntime, bytes: &[u8]) -> anyhow::Result<()> {
     for (at, byte) in DAMAGES {
         let mut copy = bytes.to_vec(rt.alloc())?;
-        if at < copy.len() {
-            copy[at] = byte;
+        if let Some(place) = copy.get_mut(at) {
+            *place = byte;
         }
         show_open(rt, &copy)?;
     }
@@ -186,12 +180,8 @@ fn run(rt: &HostRuntime, terms: Terms, reference: Month, bytes: &[u8]) -> anyhow
 
 fn main(rt: HostRuntime) -> anyhow::Result<()> {
     let bytes = fs::read(&rt, "agreement")?;
-    let Ok(terms) = agreement::reader::open(&bytes) else {
-        return Err(anyhow!("the agreement is refused"));
-    };
-    let Some(reference) = Month::new(202403) else {
-        return Err(anyhow!("no such month"));
-    };
+    let terms = agreement::reader::open(&bytes).map_err(|_| anyhow!("the agreement is refused"))?;
+    let reference = Month::new(202403).ok_or_else(|| anyhow!("no such month"))?;
     run(&rt, terms, reference, &bytes)?;
     damage(&rt, &bytes)?;
     show_open(&rt, &[])?;

@@ -1,0 +1,4 @@
+// What the trial programs share.
+#![tactic(auto)]
+
+pub mod agreements;
