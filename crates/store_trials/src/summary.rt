@@ -22,15 +22,12 @@ fn add_file<L: RowStore<Row = LineRow>, D: RowStore<Row = DayRow>>(
     ensures { statement.new ≡ statement.old }
 {
     let mut file = vec![in rt.alloc(); 0u8; FILE]?;
-    match statement.write_file(&mut file) {
-        Ok(length) => {
-            for b in file.iter().take(length) {
-                text.push(*b)?;
-            }
-            Ok(())
-        }
-        Err(_) => Err(anyhow!("the file does not fit")),
-    }
+    let length = statement
+        .write_file(&mut file)
+        .map_err(|_| anyhow!("the file does not fit"))?;
+    file.truncate(length);
+    text.extend_from_slice(&file)?;
+    Ok(())
 }
 
 fn add_lines<L: RowStore<Row = LineRow>, D: RowStore<Row = DayRow>>(
@@ -90,8 +87,7 @@ fn add_days<L: RowStore<Row = LineRow>, D: RowStore<Row = DayRow>>(
 pub fn summary<L: RowStore<Row = LineRow>, D: RowStore<Row = DayRow>>(
     rt: &HostRuntime,
     statement: &mut Statement<L, D>,
-) -> anyhow::Result<Vec<u8>>
-{
+) -> anyhow::Result<Vec<u8>> {
     let mut text = Vec::new(rt.alloc());
     add_file(rt, statement, &mut text)?;
     add_lines(rt, statement, &mut text)?;
