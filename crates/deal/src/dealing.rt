@@ -3,24 +3,17 @@ ghost use Rattle.std.specs.Prelude.{◌<◌};
 ghost use Rattle.ledger.specs.Ledger.{Kept as StoreKept};
 ghost use Rattle.ledger.specs.Rows.{line_keys, day_keys};
 
-use crate::kept::Kept;
+use crate::contents::Contents;
 use agreement::book::FileBook;
 use anyhow::anyhow;
 use ledger::day::DayRow;
 use ledger::line::LineRow;
 use ledger::store::RowStore;
-use piles::pile::{Pile, Room, over};
+use piles::pile::{Pile, ROOM_FOR_500, over};
 use piles::user::StoreUser;
 use statement::statement::Statement;
 use values::calendar::Month;
 use values::terms::Terms;
-
-// 500 rows of each store.
-const ROOM: Room = Room {
-    rows: 500,
-    line_image: 26_507,
-    day_image: 27_507,
-};
 
 // What is settled, the records in the order in which they are taken.
 #[derive(Clone, Copy)]
@@ -93,14 +86,14 @@ struct Receiver<'a> {
 }
 
 impl<'a> StoreUser for Receiver<'a> {
-    type Answer = Kept;
+    type Answer = Contents;
 
     fn run<L: RowStore<Row = LineRow> + Drop, D: RowStore<Row = DayRow> + Drop>(
         self,
         rt: &HostRuntime,
         lines: L,
         days: D,
-    ) -> anyhow::Result<Kept> {
+    ) -> anyhow::Result<Contents> {
         let input = self.input;
         let units = self.givers.len() + 1;
         let mut receiver = Share {
@@ -114,35 +107,35 @@ impl<'a> StoreUser for Receiver<'a> {
             over(
                 rt,
                 *pile,
-                ROOM,
+                ROOM_FOR_500,
                 Giver {
                     share,
                     receiver: &mut receiver,
                 },
             )?;
         }
-        Kept::of(rt, &mut receiver)
+        Contents::of(rt, &mut receiver)
     }
 }
 
-// What is kept of the records dealt out over these piles.
+// What a statement keeps of the records dealt out over these piles.
 fn dealt(
     rt: &HostRuntime,
     input: Input<'_>,
     receiver: Pile,
     givers: &[Pile],
-) -> anyhow::Result<Kept> {
-    over(rt, receiver, ROOM, Receiver { input, givers })
+) -> anyhow::Result<Contents> {
+    over(rt, receiver, ROOM_FOR_500, Receiver { input, givers })
 }
 
-fn show(rt: &HostRuntime, name: &str, whole: &Kept, other: &Kept) -> anyhow::Result<()> {
+fn show(rt: &HostRuntime, name: &str, whole: &Contents, other: &Contents) -> anyhow::Result<()> {
     let what = whole.first_difference(other).unwrap_or("the same");
     println!(rt; "{name}: {what}")?;
     Ok(())
 }
 
 // The last record first, in held tables.
-fn reversed(rt: &HostRuntime, input: Input<'_>) -> anyhow::Result<Kept> {
+fn reversed(rt: &HostRuntime, input: Input<'_>) -> anyhow::Result<Contents> {
     let records: Vec<&[u8]> = input.records.iter().rev().copied().collect(rt.alloc())?;
     let input = Input {
         records: &records,

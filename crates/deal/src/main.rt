@@ -3,8 +3,8 @@
 // on standard input, the reference month and the records.
 #![tactic(auto)]
 
+mod contents;
 mod dealing;
-mod kept;
 
 use agreement::book::FileBook;
 use anyhow::anyhow;

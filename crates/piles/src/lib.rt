@@ -3,4 +3,5 @@
 
 mod memory;
 pub mod pile;
+pub mod rows;
 pub mod user;

@@ -18,11 +18,7 @@ fn empty_image(rt: &HostRuntime, length: usize) -> anyhow::Result<Vec<u8>> {
     Ok(bytes)
 }
 
-pub fn in_tables<U: StoreUser>(
-    rt: &HostRuntime,
-    room: Room,
-    user: U,
-) -> anyhow::Result<U::Answer> {
+pub fn in_tables<U: StoreUser>(rt: &HostRuntime, room: Room, user: U) -> anyhow::Result<U::Answer> {
     let mut lines = vec![in rt.alloc(); LineCell::default(); room.rows]?;
     let mut days = vec![in rt.alloc(); DayCell::default(); room.rows]?;
     user.run(
@@ -32,26 +28,14 @@ pub fn in_tables<U: StoreUser>(
     )
 }
 
-pub fn in_images<U: StoreUser>(
-    rt: &HostRuntime,
-    room: Room,
-    user: U,
-) -> anyhow::Result<U::Answer> {
+pub fn in_images<U: StoreUser>(rt: &HostRuntime, room: Room, user: U) -> anyhow::Result<U::Answer> {
     let mut lines = empty_image(rt, room.line_image)?;
     let mut days = empty_image(rt, room.day_image)?;
-    user.run(
-        rt,
-        LineImage::open(&mut lines),
-        DayImage::open(&mut days),
-    )
+    user.run(rt, LineImage::open(&mut lines), DayImage::open(&mut days))
 }
 
 // Lines in an image, days in a table.
-pub fn in_both<U: StoreUser>(
-    rt: &HostRuntime,
-    room: Room,
-    user: U,
-) -> anyhow::Result<U::Answer> {
+pub fn in_both<U: StoreUser>(rt: &HostRuntime, room: Room, user: U) -> anyhow::Result<U::Answer> {
     let mut lines = empty_image(rt, room.line_image)?;
     let mut days = vec![in rt.alloc(); DayCell::default(); room.rows]?;
     user.run(

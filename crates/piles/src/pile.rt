@@ -10,6 +10,13 @@ pub struct Room {
     pub day_image: usize,
 }
 
+// Room for 500 rows of each store.
+pub const ROOM_FOR_500: Room = Room {
+    rows: 500,
+    line_image: 26_507,
+    day_image: 27_507,
+};
+
 // What keeps the rows: tables or images, alone or below hold-back layers.
 #[derive(Clone, Copy, PartialEq, Eq, Debug)]
 pub enum Pile {
@@ -46,7 +53,13 @@ pub fn over<U: StoreUser>(
         Pile::Image => in_images(rt, room, user),
         Pile::HeldTable => in_tables(rt, room, Held { user }),
         Pile::HeldImage => in_images(rt, room, Held { user }),
-        Pile::TwiceHeldTable => in_tables(rt, room, Held { user: Held { user } }),
+        Pile::TwiceHeldTable => in_tables(
+            rt,
+            room,
+            Held {
+                user: Held { user },
+            },
+        ),
         Pile::ImageAndHeldTable => in_both(rt, room, DaysHeld { user }),
     }
 }

@@ -35,8 +35,7 @@ impl<U: StoreUser> StoreUser for Held<U> {
         rt: &HostRuntime,
         lines: L,
         days: D,
-    ) -> anyhow::Result<U::Answer>
-    {
+    ) -> anyhow::Result<U::Answer> {
         self.user.run(rt, HoldBack::new(lines), HoldBack::new(days))
     }
 }
@@ -55,8 +54,7 @@ impl<U: StoreUser> StoreUser for DaysHeld<U> {
         rt: &HostRuntime,
         lines: L,
         days: D,
-    ) -> anyhow::Result<U::Answer>
-    {
+    ) -> anyhow::Result<U::Answer> {
         self.user.run(rt, lines, HoldBack::new(days))
     }
 }

@@ -10,7 +10,7 @@ use desk::input::{feed_all, read_reference};
 use ledger::day::DayRow;
 use ledger::line::LineRow;
 use ledger::store::RowStore;
-use piles::pile::{Pile, Room, over};
+use piles::pile::{Pile, ROOM_FOR_500, over};
 use piles::user::StoreUser;
 use settlement::refusals::refusal_lines;
 use settlement::settlement::Settlement;
@@ -23,13 +23,6 @@ use values::terms::Terms;
 
 // The stores that the arguments may ask for.
 const CHOICES: [Pile; 4] = [Pile::Table, Pile::Image, Pile::HeldTable, Pile::HeldImage];
-
-// 500 rows of each store.
-const ROOM: Room = Room {
-    rows: 500,
-    line_image: 26_507,
-    day_image: 27_507,
-};
 
 // Bytes of the longest file: a line for each row, and the total line.
 const FILE: usize = 64_629;
@@ -101,7 +94,7 @@ fn settle(rt: &HostRuntime) -> anyhow::Result<()> {
         reference,
         book,
     };
-    over(rt, pile, ROOM, job)
+    over(rt, pile, ROOM_FOR_500, job)
 }
 
 fn main(rt: HostRuntime) -> ExitCode {

@@ -5,6 +5,7 @@ use anyhow::anyhow;
 use ledger::day::DayRow;
 use ledger::line::LineRow;
 use ledger::store::RowStore;
+use piles::rows::list_rows;
 use settlement::refusals::refusal_lines;
 use statement::statement::Statement;
 use std::io::Write;
@@ -37,11 +38,13 @@ fn add_lines<L: RowStore<Row = LineRow>, D: RowStore<Row = DayRow>>(
 ) -> anyhow::Result<()>
     ensures { statement.new ≡ statement.old }
 {
-    let mut key = None;
-    for _ in 0..ROWS {
-        let Some(row) = statement.next_line(&key) else {
-            return Ok(());
-        };
+    let rows: Vec<LineRow> = list_rows(
+        rt.alloc(),
+        statement,
+        ROWS,
+        |from, after| from.next_line(after),
+    )?;
+    for row in rows.iter() {
         let month = row.key.month.number();
         let point = row.key.point.number();
         let descriptor = row.key.descriptor.number();
@@ -52,7 +55,6 @@ fn add_lines<L: RowStore<Row = LineRow>, D: RowStore<Row = DayRow>>(
             "line {month} {point} {descriptor} {tariff}: {calls} calls, {tenths} tenths\n"
         )?;
         text.extend_from_slice(line.as_bytes())?;
-        key = Some(row.key);
     }
     Ok(())
 }
@@ -64,11 +66,13 @@ fn add_days<L: RowStore<Row = LineRow>, D: RowStore<Row = DayRow>>(
 ) -> anyhow::Result<()>
     ensures { statement.new ≡ statement.old }
 {
-    let mut key = None;
-    for _ in 0..ROWS {
-        let Some(row) = statement.next_day(&key) else {
-            return Ok(());
-        };
+    let rows: Vec<DayRow> = list_rows(
+        rt.alloc(),
+        statement,
+        ROWS,
+        |from, after| from.next_day(after),
+    )?;
+    for row in rows.iter() {
         let day = row.key.day.number();
         let point = row.key.point.number();
         let calls = row.traffic.calls();
@@ -79,7 +83,6 @@ fn add_days<L: RowStore<Row = LineRow>, D: RowStore<Row = DayRow>>(
             "day {day} {point}: {calls} calls, {tenths} tenths, {earliest} to {latest}\n"
         )?;
         text.extend_from_slice(line.as_bytes())?;
-        key = Some(row.key);
     }
     Ok(())
 }

@@ -6,6 +6,7 @@ use anyhow::anyhow;
 use ledger::day::DayRow;
 use ledger::line::LineRow;
 use ledger::store::RowStore;
+use piles::rows::list_rows;
 use statement::board::{GREATEST_NUMBER, LEAST_NUMBER, RefusalBoard};
 use statement::statement::Statement;
 
@@ -18,7 +19,7 @@ const ROWS: usize = 1_000;
 const SPACE: [u8; 2] = [12, 13];
 
 #[derive(Drop)]
-pub struct Kept {
+pub struct Contents {
     file: Vec<u8>,
     lines: Vec<LineRow>,
     days: Vec<DayRow>,
@@ -39,53 +40,18 @@ fn file_of<L: RowStore<Row = LineRow>, D: RowStore<Row = DayRow>>(
     Ok(file)
 }
 
-fn lines_of<L: RowStore<Row = LineRow>, D: RowStore<Row = DayRow>>(
-    rt: &HostRuntime,
-    statement: &mut Statement<L, D>,
-) -> anyhow::Result<Vec<LineRow>>
-    ensures { statement.new ≡ statement.old }
-{
-    let mut lines = Vec::new(rt.alloc());
-    let mut key = None;
-    for _ in 0..ROWS {
-        let Some(line) = statement.next_line(&key) else {
-            break;
-        };
-        key = Some(line.key);
-        lines.push(line)?;
-    }
-    Ok(lines)
-}
-
-fn days_of<L: RowStore<Row = LineRow>, D: RowStore<Row = DayRow>>(
-    rt: &HostRuntime,
-    statement: &mut Statement<L, D>,
-) -> anyhow::Result<Vec<DayRow>>
-    ensures { statement.new ≡ statement.old }
-{
-    let mut days = Vec::new(rt.alloc());
-    let mut key = None;
-    for _ in 0..ROWS {
-        let Some(day) = statement.next_day(&key) else {
-            break;
-        };
-        key = Some(day.key);
-        days.push(day)?;
-    }
-    Ok(days)
-}
-
-impl Kept {
+impl Contents {
     pub fn of<L: RowStore<Row = LineRow>, D: RowStore<Row = DayRow>>(
         rt: &HostRuntime,
         statement: &mut Statement<L, D>,
-    ) -> anyhow::Result<Kept>
+    ) -> anyhow::Result<Contents>
         ensures { statement.new ≡ statement.old }
     {
-        Ok(Kept {
+        let alloc = rt.alloc();
+        Ok(Contents {
             file: file_of(rt, statement)?,
-            lines: lines_of(rt, statement)?,
-            days: days_of(rt, statement)?,
+            lines: list_rows(alloc, statement, ROWS, |from, after| from.next_line(after))?,
+            days: list_rows(alloc, statement, ROWS, |from, after| from.next_day(after))?,
             board: statement.board(),
             taken: statement.taken(),
         })
@@ -104,13 +70,13 @@ impl Kept {
             .any(|tally| tally.count > 0)
     }
 
-    fn same_refusals(&self, other: &Kept) -> bool {
+    fn same_refusals(&self, other: &Contents) -> bool {
         (LEAST_NUMBER..=GREATEST_NUMBER).all(|number| self.board.tally(number)
             == other.board.tally(number))
     }
 
     // In words, or none where nothing differs.
-    pub fn first_difference(&self, other: &Kept) -> Option<&'static str> {
+    pub fn first_difference(&self, other: &Contents) -> Option<&'static str> {
         if self.file != other.file {
             Some("the files differ")
         } else if self.lines != other.lines {
