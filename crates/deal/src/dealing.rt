@@ -1,319 +1,176 @@
 // The runs: in order, reversed, and dealt out over units that are then joined.
-ghost use Rattle.std.specs.Prelude.{◌≡◌};
+ghost use Rattle.std.specs.Prelude.{◌<◌};
 ghost use Rattle.ledger.specs.Ledger.{Kept as StoreKept};
 ghost use Rattle.ledger.specs.Rows.{line_keys, day_keys};
 
-use crate::compare::first_difference;
-use crate::records::Records;
+use crate::contents::Contents;
 use agreement::book::FileBook;
 use anyhow::anyhow;
-use holdback::layer::HoldBack;
-use images::format::blank;
-use imagestore::image::{DayImage, LineImage};
-use ledger::day::{DayCell, DayRow};
-use ledger::line::{LineCell, LineRow};
-use ledger::row::Row;
+use ledger::day::DayRow;
+use ledger::line::LineRow;
 use ledger::store::RowStore;
+use piles::pile::{Pile, ROOM_FOR_500, over};
+use piles::user::StoreUser;
 use statement::statement::Statement;
-use stores::table::TableStore;
 use values::calendar::Month;
 use values::terms::Terms;
 
-// Rows of each store, and the bytes of an image of so many lines or days.
-const ROWS: usize = 500;
-
-const LINE_IMAGE: usize = 26_507;
-
-const DAY_IMAGE: usize = 27_507;
+// What is settled, the records in the order in which they are taken.
+#[derive(Clone, Copy)]
+pub struct Input<'a> {
+    pub terms: Terms,
+    pub reference: Month,
+    pub book: FileBook<'a>,
+    pub records: &'a [&'a [u8]],
+}
 
 // Which records a unit takes: every `units`-th from the `unit`-th on.
 #[derive(Clone, Copy)]
-struct Share {
+struct Share<'a> {
+    input: Input<'a>,
     unit: usize,
     units: usize,
+    ghost some: { 0 < units },
 }
 
-// Takes the records of a share in order.
-fn take_share<L: RowStore<Row = LineRow>, D: RowStore<Row = DayRow>>(
-    statement: &mut Statement<L, D>,
-    book: &FileBook,
-    records: &Records<'_>,
-    share: Share,
-) {
-    for i in 0..records.count() {
-        if share.units > 0 && i % share.units == share.unit {
-            let _ = statement.take(book, records.at(i));
+impl<'a> Share<'a> {
+    // The statement of the unit.
+    fn settle<L: RowStore<Row = LineRow> + Drop, D: RowStore<Row = DayRow> + Drop>(
+        self,
+        lines: L,
+        days: D,
+    ) -> Statement<L, D>
+        requires lines { StoreKept line_keys (L.RowStore.ledger lines) (L.RowStore.kept lines) }
+        requires days { StoreKept day_keys (D.RowStore.ledger days) (D.RowStore.kept days) }
+    {
+        let input = self.input;
+        let mut statement = Statement::open(input.terms, input.reference, lines, days);
+        for record in input.records.iter().skip(self.unit).step_by(self.units) {
+            let _ = statement.take(&input.book, *record);
         }
+        statement
     }
 }
 
-// Takes all records, the last first.
-fn take_reversed<L: RowStore<Row = LineRow>, D: RowStore<Row = DayRow>>(
-    statement: &mut Statement<L, D>,
-    book: &FileBook,
-    records: &Records<'_>,
-) {
-    let count = records.count();
-    for i in 0..count {
-        let _ = statement.take(book, records.at(count.saturating_sub(i).saturating_sub(1)));
+// A unit whose part goes to the receiver.
+#[derive(Drop)]
+struct Giver<'a, 'b, L: RowStore<Row = LineRow>, D: RowStore<Row = DayRow>> {
+    share: Share<'a>,
+    receiver: &'b mut Statement<L, D>,
+}
+
+impl<'a, 'b, L: RowStore<Row = LineRow>, D: RowStore<Row = DayRow>> StoreUser
+    for Giver<'a, 'b, L, D> {
+    type Answer = ();
+
+    fn run<M: RowStore<Row = LineRow> + Drop, E: RowStore<Row = DayRow> + Drop>(
+        self,
+        _rt: &HostRuntime,
+        lines: M,
+        days: E,
+    ) -> anyhow::Result<()> {
+        let Giver { share, receiver } = self;
+        let mut giver = share.settle(lines, days);
+        receiver.join(&mut giver).map_err(|fault| {
+            let number = fault.number();
+            anyhow!("the join is refused: {number}")
+        })
     }
 }
 
-fn show(rt: &HostRuntime, name: &str, difference: Option<&'static str>) -> anyhow::Result<()> {
-    match difference {
-        Some(what) => println!(rt; "{name}: {what}")?,
-        None => println!(rt; "{name}: the same")?,
+// The records dealt out over the receiver and over a giver on each of these piles.
+#[derive(Clone, Copy)]
+struct Receiver<'a> {
+    input: Input<'a>,
+    givers: &'a [Pile],
+}
+
+impl<'a> StoreUser for Receiver<'a> {
+    type Answer = Contents;
+
+    fn run<L: RowStore<Row = LineRow> + Drop, D: RowStore<Row = DayRow> + Drop>(
+        self,
+        rt: &HostRuntime,
+        lines: L,
+        days: D,
+    ) -> anyhow::Result<Contents> {
+        let input = self.input;
+        let units = self.givers.len() + 1;
+        let mut receiver = Share {
+            input,
+            unit: 0,
+            units,
+        }
+        .settle(lines, days);
+        for (unit, pile) in (1..units).zip(self.givers) {
+            let share = Share { input, unit, units };
+            over(
+                rt,
+                *pile,
+                ROOM_FOR_500,
+                Giver {
+                    share,
+                    receiver: &mut receiver,
+                },
+            )?;
+        }
+        Contents::of(rt, &mut receiver)
     }
+}
+
+// What a statement keeps of the records dealt out over these piles.
+fn dealt(
+    rt: &HostRuntime,
+    input: Input<'_>,
+    receiver: Pile,
+    givers: &[Pile],
+) -> anyhow::Result<Contents> {
+    over(rt, receiver, ROOM_FOR_500, Receiver { input, givers })
+}
+
+fn show(rt: &HostRuntime, name: &str, whole: &Contents, other: &Contents) -> anyhow::Result<()> {
+    let what = whole.first_difference(other).unwrap_or("the same");
+    println!(rt; "{name}: {what}")?;
     Ok(())
 }
 
-// The giver's part into the receiver's.
-fn unite<
-    L: RowStore<Row = LineRow>,
-    D: RowStore<Row = DayRow>,
-    M: RowStore<Row = LineRow>,
-    E: RowStore<Row = DayRow>,
->(
-    rt: &HostRuntime,
-    receiver: &mut Statement<L, D>,
-    giver: &mut Statement<M, E>,
-) -> anyhow::Result<()> {
-    match receiver.join(giver) {
-        Ok(()) => Ok(()),
-        Err(fault) => {
-            let number = fault.number();
-            Err(anyhow!("the join is refused: {number}"))
-        }
-    }
+// The last record first, in held tables.
+fn reversed(rt: &HostRuntime, input: Input<'_>) -> anyhow::Result<Contents> {
+    let records: Vec<&[u8]> = input.records.iter().rev().copied().collect(rt.alloc())?;
+    let input = Input {
+        records: &records,
+        ..input
+    };
+    dealt(rt, input, Pile::HeldTable, &[])
 }
 
-// Bytes that hold an empty image.
-fn empty_image(rt: &HostRuntime, length: usize) -> anyhow::Result<Vec<u8>> {
-    let mut bytes = vec![in rt.alloc(); 0u8; length]?;
-    if blank(&mut bytes).is_err() {
-        return Err(anyhow!("the image has no room for its count"));
-    }
-    Ok(bytes)
-}
-
-// The last record first, over hold-back layers over two stores.
-fn run_held<
-    L: RowStore<Row = LineRow>,
-    D: RowStore<Row = DayRow>,
-    M: RowStore<Row = LineRow> + Drop,
-    E: RowStore<Row = DayRow> + Drop,
->(
-    rt: &HostRuntime,
-    whole: &mut Statement<L, D>,
-    lines: M,
-    days: E,
-    book: &FileBook,
-    records: &Records<'_>,
-) -> anyhow::Result<()>
-    requires lines { StoreKept line_keys (M.RowStore.ledger lines) (M.RowStore.kept lines) }
-    requires days { StoreKept day_keys (E.RowStore.ledger days) (E.RowStore.kept days) }
-    ensures { whole.new ≡ whole.old }
-{
-    let mut other = Statement::open(
-        whole.terms(),
-        whole.reference(),
-        HoldBack::new(lines),
-        HoldBack::new(days),
-    );
-    take_reversed(&mut other, book, records);
-    let difference = first_difference(rt, whole, &mut other)?;
-    show(rt, "reversed, in held tables", difference)
-}
-
-// The last record first, over hold-back layers over tables.
-fn run_reversed<L: RowStore<Row = LineRow>, D: RowStore<Row = DayRow>>(
-    rt: &HostRuntime,
-    whole: &mut Statement<L, D>,
-    book: &FileBook,
-    records: &Records<'_>,
-) -> anyhow::Result<()>
-    ensures { whole.new ≡ whole.old }
-{
-    let mut lines = vec![in rt.alloc(); LineCell::default(); ROWS]?;
-    let mut days = vec![in rt.alloc(); DayCell::default(); ROWS]?;
-    run_held(
-        rt,
-        whole,
-        TableStore::<LineRow>::new(&mut lines),
-        TableStore::<DayRow>::new(&mut days),
-        book,
-        records,
-    )
-}
-
-// Every other record, over tables and over images.
-fn run_two<L: RowStore<Row = LineRow>, D: RowStore<Row = DayRow>>(
-    rt: &HostRuntime,
-    whole: &mut Statement<L, D>,
-    book: &FileBook,
-    records: &Records<'_>,
-) -> anyhow::Result<()>
-    ensures { whole.new ≡ whole.old }
-{
-    let mut lines = vec![in rt.alloc(); LineCell::default(); ROWS]?;
-    let mut days = vec![in rt.alloc(); DayCell::default(); ROWS]?;
-    let mut line_image = empty_image(rt, LINE_IMAGE)?;
-    let mut day_image = empty_image(rt, DAY_IMAGE)?;
-    let mut first = Statement::open(
-        whole.terms(),
-        whole.reference(),
-        TableStore::<LineRow>::new(&mut lines),
-        TableStore::<DayRow>::new(&mut days),
-    );
-    let mut second = Statement::open(
-        whole.terms(),
-        whole.reference(),
-        LineImage::open(&mut line_image),
-        DayImage::open(&mut day_image),
-    );
-    take_share(&mut first, book, records, Share { unit: 0, units: 2 });
-    take_share(&mut second, book, records, Share { unit: 1, units: 2 });
-    unite(rt, &mut first, &mut second)?;
-    let difference = first_difference(rt, whole, &mut first)?;
-    show(
-        rt,
-        "split over two units, in tables and in images",
-        difference,
-    )
-}
-
-// Every third record, over images, held tables and tables.
-fn run_three<L: RowStore<Row = LineRow>, D: RowStore<Row = DayRow>>(
-    rt: &HostRuntime,
-    whole: &mut Statement<L, D>,
-    book: &FileBook,
-    records: &Records<'_>,
-) -> anyhow::Result<()>
-    ensures { whole.new ≡ whole.old }
-{
-    let mut line_image = empty_image(rt, LINE_IMAGE)?;
-    let mut day_image = empty_image(rt, DAY_IMAGE)?;
-    let mut first = Statement::open(
-        whole.terms(),
-        whole.reference(),
-        LineImage::open(&mut line_image),
-        DayImage::open(&mut day_image),
-    );
-    take_share(&mut first, book, records, Share { unit: 0, units: 3 });
-    give_held(rt, &mut first, book, records, Share { unit: 1, units: 3 })?;
-    give_tables(rt, &mut first, book, records, Share { unit: 2, units: 3 })?;
-    let difference = first_difference(rt, whole, &mut first)?;
-    show(
-        rt,
-        "split over three units, in images, held tables and tables",
-        difference,
-    )
-}
-
-// A share taken over hold-back layers over two stores, and joined to the receiver.
-fn give_layered<
-    L: RowStore<Row = LineRow>,
-    D: RowStore<Row = DayRow>,
-    M: RowStore<Row = LineRow> + Drop,
-    E: RowStore<Row = DayRow> + Drop,
->(
-    rt: &HostRuntime,
-    receiver: &mut Statement<L, D>,
-    lines: M,
-    days: E,
-    book: &FileBook,
-    records: &Records<'_>,
-    share: Share,
-) -> anyhow::Result<()>
-    requires lines { StoreKept line_keys (M.RowStore.ledger lines) (M.RowStore.kept lines) }
-    requires days { StoreKept day_keys (E.RowStore.ledger days) (E.RowStore.kept days) }
-{
-    let mut giver = Statement::open(
-        receiver.terms(),
-        receiver.reference(),
-        HoldBack::new(lines),
-        HoldBack::new(days),
-    );
-    take_share(&mut giver, book, records, share);
-    unite(rt, receiver, &mut giver)
-}
-
-// A share taken over hold-back layers over tables, and joined to the receiver.
-fn give_held<L: RowStore<Row = LineRow>, D: RowStore<Row = DayRow>>(
-    rt: &HostRuntime,
-    receiver: &mut Statement<L, D>,
-    book: &FileBook,
-    records: &Records<'_>,
-    share: Share,
-) -> anyhow::Result<()> {
-    let mut lines = vec![in rt.alloc(); LineCell::default(); ROWS]?;
-    let mut days = vec![in rt.alloc(); DayCell::default(); ROWS]?;
-    give_layered(
-        rt,
-        receiver,
-        TableStore::<LineRow>::new(&mut lines),
-        TableStore::<DayRow>::new(&mut days),
-        book,
-        records,
-        share,
-    )
-}
-
-// The same over tables.
-fn give_tables<L: RowStore<Row = LineRow>, D: RowStore<Row = DayRow>>(
-    rt: &HostRuntime,
-    receiver: &mut Statement<L, D>,
-    book: &FileBook,
-    records: &Records<'_>,
-    share: Share,
-) -> anyhow::Result<()> {
-    let mut lines = vec![in rt.alloc(); LineCell::default(); ROWS]?;
-    let mut days = vec![in rt.alloc(); DayCell::default(); ROWS]?;
-    let mut giver = Statement::open(
-        receiver.terms(),
-        receiver.reference(),
-        TableStore::<LineRow>::new(&mut lines),
-        TableStore::<DayRow>::new(&mut days),
-    );
-    take_share(&mut giver, book, records, share);
-    unite(rt, receiver, &mut giver)
-}
-
-// How many records a number refused.
-fn refused<L: RowStore<Row = LineRow>, D: RowStore<Row = DayRow>>(
-    statement: &Statement<L, D>,
-    number: u8,
-) -> u32 {
-    match statement.board().tally(number) {
-        Some(tally) => tally.count,
-        None => 0,
-    }
-}
-
-pub fn run(
-    rt: &HostRuntime,
-    terms: Terms,
-    reference: Month,
-    book: &FileBook,
-    records: &Records<'_>,
-) -> anyhow::Result<()> {
-    let mut lines = vec![in rt.alloc(); LineCell::default(); ROWS]?;
-    let mut days = vec![in rt.alloc(); DayCell::default(); ROWS]?;
-    let mut whole = Statement::open(
-        terms,
-        reference,
-        TableStore::<LineRow>::new(&mut lines),
-        TableStore::<DayRow>::new(&mut days),
-    );
-    take_share(&mut whole, book, records, Share { unit: 0, units: 1 });
+pub fn run(rt: &HostRuntime, input: Input<'_>) -> anyhow::Result<()> {
+    let whole = dealt(rt, input, Pile::Table, &[])?;
     let taken = whole.taken();
     println!(rt; "in order, in tables: {taken} records taken")?;
-    if refused(&whole, 12) > 0 || refused(&whole, 13) > 0 {
+    if whole.refused_for_space() {
         println!(rt;
             "some records are refused for space, so order and dealing may change what is booked"
         )?;
     }
-    run_reversed(rt, &mut whole, book, records)?;
-    run_two(rt, &mut whole, book, records)?;
-    run_three(rt, &mut whole, book, records)
+    show(
+        rt,
+        "reversed, in held tables",
+        &whole,
+        &reversed(rt, input)?,
+    )?;
+    let two = dealt(rt, input, Pile::Table, &[Pile::Image])?;
+    show(
+        rt,
+        "split over two units, in tables and in images",
+        &whole,
+        &two,
+    )?;
+    let three = dealt(rt, input, Pile::Image, &[Pile::HeldTable, Pile::Table])?;
+    show(
+        rt,
+        "split over three units, in images, held tables and tables",
+        &whole,
+        &three,
+    )
 }

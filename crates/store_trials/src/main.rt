@@ -2,14 +2,63 @@
 // refusals. Reads the file `agreement` and, on standard input, the reference month and the records.
 #![tactic(auto)]
 
-mod piles;
 mod summary;
 
+use agreement::book::FileBook;
 use anyhow::anyhow;
-use piles::Input;
+use ledger::day::DayRow;
+use ledger::line::LineRow;
+use ledger::store::RowStore;
+use piles::pile::{Pile, Room, over};
+use piles::user::StoreUser;
 use settlement::month::{MONTH_LINE, read_month};
+use settlement::settlement::Settlement;
 use std::fs;
 use std::io::Read;
+use values::calendar::Month;
+use values::terms::Terms;
+
+// So few rows that some records are refused for space, and images with a rest that holds no whole row.
+const ROOM: Room = Room {
+    rows: 12,
+    line_image: 660,
+    day_image: 680,
+};
+
+// The piles compared with tables.
+const OTHERS: [Pile; 5] = [
+    Pile::Image,
+    Pile::HeldTable,
+    Pile::HeldImage,
+    Pile::TwiceHeldTable,
+    Pile::ImageAndHeldTable,
+];
+
+#[derive(Clone, Copy)]
+struct Input<'a> {
+    terms: Terms,
+    reference: Month,
+    agreement: &'a [u8],
+    records: &'a [u8],
+}
+
+// What two stores keep of the records.
+impl<'a> StoreUser for Input<'a> {
+    type Answer = Vec<u8>;
+
+    fn run<L: RowStore<Row = LineRow> + Drop, D: RowStore<Row = DayRow> + Drop>(
+        self,
+        rt: &HostRuntime,
+        lines: L,
+        days: D,
+    ) -> anyhow::Result<Vec<u8>> {
+        let book = FileBook::new(self.agreement);
+        let mut settlement = Settlement::open(self.terms, self.reference, lines, days, book);
+        settlement.feed(self.records);
+        let mut statement = settlement.finish();
+        summary::summary(rt, &mut statement)
+    }
+}
 
 // Whether what a pile keeps is what the first one keeps.
 fn compare(rt: &HostRuntime, name: &str, first: &[u8], other: &[u8]) -> anyhow::Result<()> {
@@ -21,47 +70,35 @@ fn compare(rt: &HostRuntime, name: &str, first: &[u8], other: &[u8]) -> anyhow::
     Ok(())
 }
 
-fn run(rt: &HostRuntime, input: &Input<'_>) -> anyhow::Result<()> {
-    let table = piles::in_tables(rt, input)?;
+fn run(rt: &HostRuntime, input: Input<'_>) -> anyhow::Result<()> {
+    let table = over(rt, Pile::Table, ROOM, input)?;
     println!(rt; "table:")?;
     summary::print(rt, &table)?;
-    compare(rt, "image", &table, &piles::in_images(rt, input)?)?;
-    compare(rt, "held-table", &table, &piles::in_held_tables(rt, input)?)?;
-    compare(rt, "held-image", &table, &piles::in_held_images(rt, input)?)?;
-    compare(
-        rt,
-        "twice held table",
-        &table,
-        &piles::in_twice_held_tables(rt, input)?,
-    )?;
-    compare(
-        rt,
-        "lines in an image, days held over a table",
-        &table,
-        &piles::in_both(rt, input)?,
-    )
+    for pile in OTHERS {
+        let other = over(rt, pile, ROOM, input)?;
+        compare(rt, pile.name(), &table, &other)?;
+    }
+    Ok(())
 }
 
 fn main(rt: HostRuntime) -> anyhow::Result<()> {
     let agreement = fs::read(&rt, "agreement")?;
     let mut text = Vec::new(rt.alloc());
     rt.stdin().read_to_end(&mut text)?;
-    let Ok(terms) = agreement::reader::open(&agreement) else {
-        return Err(anyhow!("the agreement is refused"));
-    };
-    if text.len() < MONTH_LINE {
-        return Err(anyhow!("there is no month"));
-    }
-    let Some(reference) = read_month(&text[0..MONTH_LINE]) else {
-        return Err(anyhow!("the month is refused"));
-    };
+    let terms = agreement::reader::open(&agreement).map_err(|_| anyhow!(
+        "the agreement is refused"
+    ))?;
+    let (month, records) = text
+        .split_at_checked(MONTH_LINE)
+        .ok_or_else(|| anyhow!("there is no month"))?;
+    let reference = read_month(month).ok_or_else(|| anyhow!("the month is refused"))?;
     run(
         &rt,
-        &Input {
+        Input {
             terms,
             reference,
             agreement: &agreement,
-            records: &text[MONTH_LINE..],
+            records,
         },
     )
 }

@@ -5,6 +5,7 @@ use anyhow::anyhow;
 use ledger::day::DayRow;
 use ledger::line::LineRow;
 use ledger::store::RowStore;
+use piles::rows::list_rows;
 use settlement::refusals::refusal_lines;
 use statement::statement::Statement;
 use std::io::Write;
@@ -22,15 +23,12 @@ fn add_file<L: RowStore<Row = LineRow>, D: RowStore<Row = DayRow>>(
     ensures { statement.new ≡ statement.old }
 {
     let mut file = vec![in rt.alloc(); 0u8; FILE]?;
-    match statement.write_file(&mut file) {
-        Ok(length) => {
-            for b in file.iter().take(length) {
-                text.push(*b)?;
-            }
-            Ok(())
-        }
-        Err(_) => Err(anyhow!("the file does not fit")),
-    }
+    let length = statement
+        .write_file(&mut file)
+        .map_err(|_| anyhow!("the file does not fit"))?;
+    file.truncate(length);
+    text.extend_from_slice(&file)?;
+    Ok(())
 }
 
 fn add_lines<L: RowStore<Row = LineRow>, D: RowStore<Row = DayRow>>(
@@ -40,11 +38,13 @@ fn add_lines<L: RowStore<Row = LineRow>, D: RowStore<Row = DayRow>>(
 ) -> anyhow::Result<()>
     ensures { statement.new ≡ statement.old }
 {
-    let mut key = None;
-    for _ in 0..ROWS {
-        let Some(row) = statement.next_line(&key) else {
-            return Ok(());
-        };
+    let rows: Vec<LineRow> = list_rows(
+        rt.alloc(),
+        statement,
+        ROWS,
+        |from, after| from.next_line(after),
+    )?;
+    for row in rows.iter() {
         let month = row.key.month.number();
         let point = row.key.point.number();
         let descriptor = row.key.descriptor.number();
@@ -55,7 +55,6 @@ fn add_lines<L: RowStore<Row = LineRow>, D: RowStore<Row = DayRow>>(
             "line {month} {point} {descriptor} {tariff}: {calls} calls, {tenths} tenths\n"
         )?;
         text.extend_from_slice(line.as_bytes())?;
-        key = Some(row.key);
     }
     Ok(())
 }
@@ -67,11 +66,13 @@ fn add_days<L: RowStore<Row = LineRow>, D: RowStore<Row = DayRow>>(
 ) -> anyhow::Result<()>
     ensures { statement.new ≡ statement.old }
 {
-    let mut key = None;
-    for _ in 0..ROWS {
-        let Some(row) = statement.next_day(&key) else {
-            return Ok(());
-        };
+    let rows: Vec<DayRow> = list_rows(
+        rt.alloc(),
+        statement,
+        ROWS,
+        |from, after| from.next_day(after),
+    )?;
+    for row in rows.iter() {
         let day = row.key.day.number();
         let point = row.key.point.number();
         let calls = row.traffic.calls();
@@ -82,7 +83,6 @@ fn add_days<L: RowStore<Row = LineRow>, D: RowStore<Row = DayRow>>(
             "day {day} {point}: {calls} calls, {tenths} tenths, {earliest} to {latest}\n"
         )?;
         text.extend_from_slice(line.as_bytes())?;
-        key = Some(row.key);
     }
     Ok(())
 }
