@@ -40,8 +40,7 @@ pub fn read_reference(rt: &HostRuntime) -> anyhow::Result<Month> {
 pub fn feed_all<L: RowStore<Row = LineRow>, D: RowStore<Row = DayRow>, B: TariffBook + Drop>(
     rt: &HostRuntime,
     settlement: &mut Settlement<L, D, B>,
-) -> anyhow::Result<()>
-{
+) -> anyhow::Result<()> {
     let mut input = rt.stdin();
     let mut piece = vec![in rt.alloc(); 0u8; PIECE]?;
     // A count that no input reaches: a loop with no end would ask for a handle.
