@@ -1,11 +1,10 @@
 // The report: each line with its verdict in words, each month with what both sides have, and a summary.
-ghost use Rattle.std.specs.Prelude.{◌≡◌};
-
 use agreement::book::FileBook;
+use anyhow::{Error, anyhow};
 use declared::file;
 use declared::file::Declared;
-use declared::lines::DetailLine;
-use desk::refusals::explain;
+use declared::lines::{DetailLine, Head};
+use desk::refusals::Refusal;
 use detraf::amounts::Amounts;
 use detraf::line::LINE_WIDTH;
 use ledger::day::DayRow;
@@ -13,7 +12,7 @@ use ledger::line::LineRow;
 use ledger::store::RowStore;
 use ledger::traffic::Traffic;
 use statement::statement::Statement;
-use std::process::ExitCode;
+use std::{fmt, str};
 use values::calendar::Month;
 use values::rates::Tariff;
 use values::terms::Terms;
@@ -36,16 +35,14 @@ fn words(verdict: Verdict) -> &'static str {
     }
 }
 
-// A text without its blanks.
-fn print_text(rt: &HostRuntime, text: &[u8]) -> anyhow::Result<()> {
-    for b in text {
-        if *b != b' ' {
-            let c = *b as char;
-            print!(rt; "{c}")?;
-        }
+// Hundredths, with a decimal comma.
+#[derive(Clone, Copy)]
+struct Hundredths(u128);
+
+impl fmt::Display for Hundredths {
+    fn fmt<W: fmt::Write>(&self, f: &mut fmt::Formatter<W>) -> fmt::Result {
+        write!(f, "{},{:02}", self.0 / 100, self.0 % 100)
     }
-    print!(rt; " ")?;
-    Ok(())
 }
 
 fn print_amounts(rt: &HostRuntime, name: &str, amounts: Amounts) -> anyhow::Result<()> {
@@ -55,23 +52,19 @@ fn print_amounts(rt: &HostRuntime, name: &str, amounts: Amounts) -> anyhow::Resu
         icms,
         gross,
     } = amounts;
-    print!(rt; "    {name} net {},{:02}", net / 100, net % 100)?;
-    print!(rt; ", PIS/COFINS {},{:02}", pis / 100, pis % 100)?;
-    print!(rt; ", ICMS {},{:02}", icms / 100, icms % 100)?;
-    println!(rt; ", gross {},{:02}", gross / 100, gross % 100)?;
+    let [net, pis, icms, gross] = [net, pis, icms, gross].map(|cents| Hundredths(cents as u128));
+    println!(rt; "    {name} net {net}, PIS/COFINS {pis}, ICMS {icms}, gross {gross}")?;
     Ok(())
 }
 
 // What the amounts of a line should be.
 fn print_expected(rt: &HostRuntime, terms: Terms, line: DetailLine<'_>) -> anyhow::Result<()> {
-    let Some(traffic) = Traffic::new(line.calls, line.tenths) else {
-        return Ok(());
-    };
-    let Some(tariff) = Tariff::new(line.tariff) else {
-        return Ok(());
-    };
-    let amounts = Amounts::new(traffic, tariff, terms.rates());
-    print_amounts(rt, "expected", amounts)
+    if let Some((traffic, tariff)) = Traffic::new(line.calls, line.tenths).zip(Tariff::new(
+        line.tariff,
+    )) {
+        print_amounts(rt, "expected", Amounts::new(traffic, tariff, terms.rates()))?;
+    }
+    Ok(())
 }
 
 fn print_line(
@@ -81,23 +74,24 @@ fn print_line(
     verdict: Verdict,
     terms: Terms,
 ) -> anyhow::Result<()> {
-    let month = line.month;
-    print!(rt; "line {number}: {month} ")?;
-    print_text(rt, line.point)?;
-    print_text(rt, line.descriptor)?;
-    let tariff = line.tariff;
-    let calls = line.calls;
-    let tenths = line.tenths;
-    let what = words(verdict);
+    let DetailLine {
+        month,
+        calls,
+        tenths,
+        tariff,
+        ..
+    } = line;
+    let point = str::from_utf8(line.point)?.trim();
+    let descriptor = str::from_utf8(line.descriptor)?.trim();
     println!(rt;
-        "at {},{:06}, {calls} calls, {tenths} tenths: {what}",
+        "line {number}: {month} {point} {descriptor} at {},{:06}, {calls} calls, {tenths} tenths: {}",
         tariff / 1_000_000,
-        tariff % 1_000_000
+        tariff % 1_000_000,
+        words(verdict)
     )?;
     print_amounts(rt, "declared", line.amounts)?;
     match verdict {
-        Verdict::Net => print_expected(rt, terms, line),
-        Verdict::Tax => print_expected(rt, terms, line),
+        Verdict::Net | Verdict::Tax => print_expected(rt, terms, line),
         _ => Ok(()),
     }
 }
@@ -111,104 +105,102 @@ fn print_lines(
 ) -> anyhow::Result<()> {
     for (i, line) in file.details().enumerate() {
         let verdict = judge(terms, reference, book, line);
-        print_line(rt, i.saturating_add(1), line, verdict, terms)?;
+        print_line(rt, i + 1, line, verdict, terms)?;
     }
     Ok(())
 }
 
 fn print_month(rt: &HostRuntime, contest: MonthContest) -> anyhow::Result<()> {
-    let month = contest.month.number();
-    let ours = contest.expected;
-    let theirs = contest.declared;
-    let difference = theirs.abs_diff(ours);
+    let MonthContest {
+        month,
+        declared,
+        expected,
+        contestable,
+    } = contest;
+    let difference = declared.abs_diff(expected);
     print!(rt;
-        "month {month}: declared {},{:02}, ours {},{:02}, difference {},{:02} ",
-        theirs / 100,
-        theirs % 100,
-        ours / 100,
-        ours % 100,
-        difference / 100,
-        difference % 100
+        "month {}: declared {}, ours {}, difference {} ",
+        month.number(),
+        Hundredths(declared),
+        Hundredths(expected),
+        Hundredths(difference)
     )?;
-    if theirs == 0 {
-        print!(rt; "(no share of 0,00): ")?;
-    } else {
-        let share = difference.saturating_mul(10_000) / theirs;
-        print!(rt; "({},{:02} per cent): ", share / 100, share % 100)?;
+    match difference.saturating_mul(10_000).checked_div(declared) {
+        Some(share) => print!(rt; "({} per cent): ", Hundredths(share))?,
+        None => print!(rt; "(no share of 0,00): ")?,
     }
-    if contest.contestable {
-        println!(rt; "contestable")?;
-    } else {
-        println!(rt; "not contestable")?;
-    }
+    println!(rt;
+        "{}",
+        if contestable {
+            "contestable"
+        } else {
+            "not contestable"
+        }
+    )?;
     Ok(())
 }
 
-// The months of the statement, the reference month last, and how many there are and are contestable.
-fn print_months<L: RowStore<Row = LineRow>, D: RowStore<Row = DayRow>>(
-    rt: &HostRuntime,
-    statement: &mut Statement<L, D>,
-    file: Declared<'_>,
-) -> anyhow::Result<(usize, usize)> {
-    let mut months: usize = 0;
-    let mut contestable: usize = 0;
-    for back in BACK {
-        if let Some(contest) = contest_month(statement, file, back) {
-            print_month(rt, contest)?;
-            months = months.saturating_add(1);
-            if contest.contestable {
-                contestable = contestable.saturating_add(1);
-            }
-        }
-    }
-    Ok((months, contestable))
-}
-
-// How many verdicts have this code.
-fn count(verdicts: &[u8], code: u8) -> usize {
-    let mut count: usize = 0;
-    for verdict in verdicts {
-        if *verdict == code {
-            count = count.saturating_add(1);
-        }
-    }
-    count
+fn count(verdicts: &[u8], verdict: Verdict) -> usize {
+    verdicts
+        .iter()
+        .filter(|byte| **byte == verdict.code())
+        .count()
 }
 
 fn print_summary(
     rt: &HostRuntime,
     verdicts: &[u8],
-    months: usize,
-    contestable: usize,
+    months: [Option<MonthContest>; 3],
 ) -> anyhow::Result<()> {
     let lines = verdicts.len();
-    let right = count(verdicts, Verdict::Right.code());
-    let month = count(verdicts, Verdict::Month.code());
-    let tariff = count(verdicts, Verdict::Tariff.code());
-    let net = count(verdicts, Verdict::Net.code());
-    let tax = count(verdicts, Verdict::Tax.code());
+    let right = count(verdicts, Verdict::Right);
+    let month = count(verdicts, Verdict::Month);
+    let tariff = count(verdicts, Verdict::Tariff);
+    let net = count(verdicts, Verdict::Net);
+    let tax = count(verdicts, Verdict::Tax);
+    let all = months.iter().flatten().count();
+    let contestable = months
+        .iter()
+        .flatten()
+        .filter(|month| month.contestable)
+        .count();
     print!(rt; "summary lines={lines} right={right} month={month} ")?;
     print!(rt; "tariff={tariff} net={net} tax={tax} ")?;
-    println!(rt; "months={months} contestable={contestable}")?;
+    println!(rt; "months={all} contestable={contestable}")?;
     Ok(())
 }
 
-// Why the contest is refused.
-fn refuse(rt: &HostRuntime, bytes: &[u8], fault: ContestFault) -> anyhow::Result<String> {
-    let number = fault.number();
-    match fault {
-        ContestFault::Read(why) => explain(rt, bytes, why),
-        ContestFault::Unlike => {
-            let text = format!(in rt.alloc();
-                "refused: {number} (the declared file has other parties or another reference month)"
-            )?;
-            Ok(text)
-        }
-        ContestFault::Short => {
-            let text = format!(in rt.alloc(); "refused: {number} (no room for the verdicts)")?;
-            Ok(text)
-        }
+// Why the contest of a file of these bytes is refused.
+#[derive(Clone, Copy)]
+struct ContestRefusal<'a> {
+    bytes: &'a [u8],
+    fault: ContestFault,
+}
+
+impl fmt::Display for ContestRefusal<'_> {
+    fn fmt<W: fmt::Write>(&self, f: &mut fmt::Formatter<W>) -> fmt::Result {
+        let why = match self.fault {
+            ContestFault::Read(fault) => {
+                return write!(
+                    f,
+                    "{}",
+                    Refusal {
+                        bytes: self.bytes,
+                        fault
+                    }
+                );
+            }
+            ContestFault::Unlike =>
+                "the declared file has other parties or another reference month",
+            ContestFault::Short => "no room for the verdicts",
+        };
+        write!(f, "refused: {} ({why})", self.fault.number())
     }
+}
+
+fn refused(bytes: &[u8], fault: ContestFault) -> Error {
+    let refusal = ContestRefusal { bytes, fault };
+    anyhow!("{refusal}")
 }
 
 pub fn report<L: RowStore<Row = LineRow>, D: RowStore<Row = DayRow>>(
@@ -216,31 +208,22 @@ pub fn report<L: RowStore<Row = LineRow>, D: RowStore<Row = DayRow>>(
     statement: &mut Statement<L, D>,
     book: &FileBook,
     bytes: &[u8],
-) -> anyhow::Result<ExitCode> {
+) -> anyhow::Result<()> {
     let mut verdicts = vec![in rt.alloc(); 0u8; bytes.len() / LINE_WIDTH]?;
-    let count = match contest(statement, book, bytes, &mut verdicts) {
-        Ok(count) => count,
-        Err(fault) => {
-            let text = refuse(rt, bytes, fault)?;
-            eprintln!(rt; "contest: {text}")?;
-            return Ok(ExitCode::FAILURE);
-        }
-    };
-    let Ok(file) = file::read(bytes) else {
-        return Ok(ExitCode::SUCCESS);
-    };
-    let head = file.head();
-    let creditor = head.creditor;
-    let debtor = head.debtor;
-    let reference = head.reference;
+    let file = file::read(bytes).map_err(|fault| refused(bytes, ContestFault::Read(fault)))?;
+    let count = contest(statement, book, bytes, &mut verdicts).map_err(|fault| refused(
+        bytes, fault,
+    ))?;
+    let Head {
+        creditor,
+        debtor,
+        reference,
+    } = file.head();
     println!(rt; "creditor {creditor:03}, debtor {debtor:03}, reference month {reference}")?;
     print_lines(rt, statement.terms(), statement.reference(), book, file)?;
-    let (months, contestable) = print_months(rt, statement, file)?;
-    print_summary(
-        rt,
-        verdicts.get(0..count).unwrap_or(&[]),
-        months,
-        contestable,
-    )?;
-    Ok(ExitCode::SUCCESS)
+    let months = BACK.map(|back| contest_month(statement, file, back));
+    for month in months.iter().flatten() {
+        print_month(rt, *month)?;
+    }
+    print_summary(rt, verdicts.get(..count).unwrap_or_default(), months)
 }

@@ -2,7 +2,6 @@
 // (the reference month's line and our records) and, on standard input, the declared files, each followed by an empty line.
 #![tactic(auto)]
 
-ghost use Rattle.std.specs.Prelude.{◌≡◌};
 ghost use Rattle.ledger.specs.Ledger.{Kept as StoreKept};
 ghost use Rattle.ledger.specs.Rows.{line_keys, day_keys};
 
@@ -23,7 +22,7 @@ use values::calendar::Month;
 use values::terms::Terms;
 use verdicts::contesting::contest;
 use verdicts::faults::ContestFault;
-use verdicts::months::contest_month;
+use verdicts::months::{MonthContest, contest_month};
 
 const ROWS: usize = 12;
 
@@ -32,14 +31,6 @@ const ROOM: usize = 8;
 
 // How many months before the reference month, the earliest first.
 const BACK: [u8; 3] = [2, 1, 0];
-
-#[derive(Drop)]
-struct Input<'a> {
-    terms: Terms,
-    reference: Month,
-    agreement: &'a [u8],
-    records: &'a [u8],
-}
 
 fn show_fault(rt: &HostRuntime, fault: ContestFault) -> anyhow::Result<()> {
     let number = fault.number();
@@ -55,11 +46,9 @@ fn show_fault(rt: &HostRuntime, fault: ContestFault) -> anyhow::Result<()> {
 // The verdicts as digits; a byte that stayed as it was is shown as it is.
 fn show_verdicts(rt: &HostRuntime, out: &[u8]) -> anyhow::Result<()> {
     for b in out {
-        if *b < 5 {
-            print!(rt; "{b}")?;
-        } else {
-            let c = *b as char;
-            print!(rt; "{c}")?;
+        match *b {
+            0..=4 => print!(rt; "{b}")?,
+            other => print!(rt; "{}", other as char)?,
         }
     }
     Ok(())
@@ -69,19 +58,23 @@ fn show_months<L: RowStore<Row = LineRow>, D: RowStore<Row = DayRow>>(
     rt: &HostRuntime,
     statement: &mut Statement<L, D>,
     bytes: &[u8],
-) -> anyhow::Result<()>
-    ensures { statement.new ≡ statement.old }
-{
+) -> anyhow::Result<()> {
     let Ok(file) = file::read(bytes) else {
         return Ok(());
     };
     for back in BACK {
-        if let Some(month) = contest_month(statement, file, back) {
-            let number = month.month.number();
-            let theirs = month.declared;
-            let ours = month.expected;
-            let contestable = u8::from(month.contestable);
-            print!(rt; " {number} {theirs} {ours} {contestable}")?;
+        if let Some(contest) = contest_month(statement, file, back) {
+            let MonthContest {
+                month,
+                declared,
+                expected,
+                contestable,
+            } = contest;
+            print!(rt;
+                " {} {declared} {expected} {}",
+                month.number(),
+                u8::from(contestable)
+            )?;
         }
     }
     println!(rt)?;
@@ -93,9 +86,7 @@ fn show<L: RowStore<Row = LineRow>, D: RowStore<Row = DayRow>>(
     statement: &mut Statement<L, D>,
     book: &FileBook,
     bytes: &[u8],
-) -> anyhow::Result<()>
-    ensures { statement.new ≡ statement.old }
-{
+) -> anyhow::Result<()> {
     let mut out = [b'-'; ROOM];
     match contest(statement, book, bytes, &mut out) {
         Ok(_) => {
@@ -126,46 +117,43 @@ fn show_all<L: RowStore<Row = LineRow>, D: RowStore<Row = DayRow>>(
     Ok(())
 }
 
-// Settles the records over two stores, and contests each file against them.
+// Settles the records over two stores, and contests each file against them. The stores are of any type, since the borrow
+// check does not cover a settlement whose own type lends them for writing.
 fn run<L: RowStore<Row = LineRow> + Drop, D: RowStore<Row = DayRow> + Drop>(
     rt: &HostRuntime,
-    input: &Input<'_>,
+    terms: Terms,
+    reference: Month,
+    book: FileBook<'_>,
+    records: &[u8],
     lines: L,
     days: D,
 ) -> anyhow::Result<()>
     requires lines { StoreKept line_keys (L.RowStore.ledger lines) (L.RowStore.kept lines) }
     requires days { StoreKept day_keys (D.RowStore.ledger days) (D.RowStore.kept days) }
 {
-    let book = FileBook::new(input.agreement);
-    let mut settlement = Settlement::open(input.terms, input.reference, lines, days, book);
-    settlement.feed(input.records);
-    let mut statement = settlement.finish();
-    show_all(rt, &mut statement, &FileBook::new(input.agreement))
+    let mut settlement = Settlement::open(terms, reference, lines, days, book);
+    settlement.feed(records);
+    show_all(rt, &mut settlement.finish(), &book)
 }
 
 fn main(rt: HostRuntime) -> anyhow::Result<()> {
     let agreement = fs::read(&rt, "agreement")?;
     let records = fs::read(&rt, "records")?;
-    let Ok(terms) = agreement::reader::open(&agreement) else {
-        return Err(anyhow!("the agreement is refused"));
-    };
-    if records.len() < MONTH_LINE {
+    let terms = agreement::reader::open(&agreement).map_err(|_| anyhow!(
+        "the agreement is refused"
+    ))?;
+    let Some((month, records)) = records.split_at_checked(MONTH_LINE) else {
         return Err(anyhow!("there is no month"));
-    }
-    let Some(reference) = read_month(&records[0..MONTH_LINE]) else {
-        return Err(anyhow!("the month is refused"));
     };
+    let reference = read_month(month).ok_or_else(|| anyhow!("the month is refused"))?;
     let mut lines = [LineCell::default(); ROWS];
     let mut days = [DayCell::default(); ROWS];
-    let input = Input {
-        terms,
-        reference,
-        agreement: &agreement,
-        records: &records[MONTH_LINE..],
-    };
     run(
         &rt,
-        &input,
+        terms,
+        reference,
+        FileBook::new(&agreement),
+        records,
         TableStore::<LineRow>::new(&mut lines),
         TableStore::<DayRow>::new(&mut days),
     )

@@ -1,7 +1,7 @@
 // Why a DETRAF file is refused, in words, with the place and the bytes at fault.
 use declared::faults::{Place, ReadFault};
 use detraf::line::LINE_WIDTH;
-use std::fmt::Write;
+use std::fmt;
 
 // The name and the columns of each field, from 1.
 const FIELDS: [(&str, usize, usize); 16] = [
@@ -33,67 +33,74 @@ fn cause(fault: ReadFault) -> &'static str {
     }
 }
 
-// Bytes as text, with a dot for each that is not printable, and in hexadecimal digits.
-fn show(rt: &HostRuntime, bytes: &[u8]) -> anyhow::Result<String> {
-    let mut text = String::new(rt.alloc());
-    let mut digits = String::new(rt.alloc());
-    for b in bytes {
-        let printable = matches!(*b, b' '..=b'~');
-        text.push(if printable { *b as char } else { '.' })?;
-        write!(digits, " {b:02x}")?;
-    }
-    Ok(format!(in rt.alloc(); "'{text}', hexadecimal{digits}")?)
-}
+// Bytes as text, with a dot for each that is not printable.
+#[derive(Clone, Copy)]
+struct Text<'a>(&'a [u8]);
 
-// The bytes of these columns of a line; none where the file has no such line.
-fn columns(bytes: &[u8], line: usize, first: usize, last: usize) -> &[u8] {
-    bytes
-        .chunks(LINE_WIDTH)
-        .nth(line.saturating_sub(1))
-        .and_then(|row| row.get(first.saturating_sub(1)..last))
-        .unwrap_or(&[])
-}
-
-// A fault of a whole line, which is printed as field 0.
-fn at_line(
-    rt: &HostRuntime,
-    bytes: &[u8],
-    number: u8,
-    why: &str,
-    line: usize,
-) -> anyhow::Result<String> {
-    let shown = show(rt, columns(bytes, line, 1, 128))?;
-    Ok(format!(in rt.alloc(); "refused: {number}, line {line}, field 0 ({why}): {shown}")?)
-}
-
-// A fault of a field.
-fn at_field(
-    rt: &HostRuntime,
-    bytes: &[u8],
-    number: u8,
-    why: &str,
-    line: usize,
-    field: u8,
-) -> anyhow::Result<String> {
-    // field 0 wraps past the end of the table
-    let Some((name, first, last)) = FIELDS.get(usize::from(field).wrapping_sub(1)) else {
-        return at_line(rt, bytes, number, why, line);
-    };
-    let shown = show(rt, columns(bytes, line, *first, *last))?;
-    Ok(format!(in rt.alloc();
-        "refused: {number}, line {line}, field {field} ({why}: {name}, columns {first} to {last}): {shown}"
-    )?)
-}
-
-// The refusal of a file of these bytes.
-pub fn explain(rt: &HostRuntime, bytes: &[u8], fault: ReadFault) -> anyhow::Result<String> {
-    let number = fault.number();
-    let why = cause(fault);
-    match fault.place() {
-        Place::Length(length) => {
-            Ok(format!(in rt.alloc(); "refused: {number}, length {length} ({why})")?)
+impl fmt::Display for Text<'_> {
+    fn fmt<W: fmt::Write>(&self, f: &mut fmt::Formatter<W>) -> fmt::Result {
+        for b in self.0 {
+            f.write_char(if matches!(*b, b' '..=b'~') {
+                *b as char
+            } else {
+                '.'
+            })?;
         }
-        Place::Field { line, field } => at_field(rt, bytes, number, why, line, field),
-        Place::Line { line } => at_line(rt, bytes, number, why, line),
+        Ok(())
+    }
+}
+
+// Bytes in hexadecimal digits, with a blank before each.
+#[derive(Clone, Copy)]
+struct Digits<'a>(&'a [u8]);
+
+impl fmt::Display for Digits<'_> {
+    fn fmt<W: fmt::Write>(&self, f: &mut fmt::Formatter<W>) -> fmt::Result {
+        for b in self.0 {
+            write!(f, " {b:02x}")?;
+        }
+        Ok(())
+    }
+}
+
+// Why a file of these bytes is refused.
+#[derive(Clone, Copy)]
+pub struct Refusal<'a> {
+    pub bytes: &'a [u8],
+    pub fault: ReadFault,
+}
+
+impl Refusal<'_> {
+    // The bytes of these columns of a line; none where the file has no such line.
+    fn columns(&self, line: usize, first: usize, last: usize) -> &[u8] {
+        self.bytes
+            .chunks(LINE_WIDTH)
+            .nth(line.saturating_sub(1))
+            .and_then(|row| row.get(first.saturating_sub(1)..last))
+            .unwrap_or_default()
+    }
+}
+
+impl fmt::Display for Refusal<'_> {
+    fn fmt<W: fmt::Write>(&self, f: &mut fmt::Formatter<W>) -> fmt::Result {
+        let number = self.fault.number();
+        let why = cause(self.fault);
+        let (line, field) = match self.fault.place() {
+            Place::Length(length) => {
+                return write!(f, "refused: {number}, length {length} ({why})");
+            }
+            Place::Field { line, field } => (line, field),
+            // printed as field 0
+            Place::Line { line } => (line, 0),
+        };
+        // field 0 wraps past the end of the table
+        let known = FIELDS.get(usize::from(field).wrapping_sub(1));
+        let (first, last) = known.map_or((1, 128), |(_, first, last)| (*first, *last));
+        write!(f, "refused: {number}, line {line}, field {field} ({why}")?;
+        if let Some((name, ..)) = known {
+            write!(f, ": {name}, columns {first} to {last}")?;
+        }
+        let shown = self.columns(line, first, last);
+        write!(f, "): '{}', hexadecimal{}", Text(shown), Digits(shown))
     }
 }

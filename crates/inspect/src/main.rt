@@ -8,40 +8,25 @@ use amounts::{print_amounts, print_rate};
 use anyhow::anyhow;
 use declared::file;
 use declared::file::Declared;
-use declared::lines::{DeclaredLine, DetailLine, TotalLine};
-use desk::refusals::explain;
+use declared::lines::{DeclaredLine, DetailLine, Head, TotalLine};
+use desk::files::read_named;
+use desk::refusals::Refusal;
 use std::io::Read;
 use std::process::ExitCode;
-use std::{env, fs};
+use std::{env, str};
 
-// The bytes of the file named, or else of standard input; none where the file cannot be read, which is then said.
-fn read_input(rt: &HostRuntime) -> anyhow::Result<Option<Vec<u8>>> {
-    let mut words = env::args(rt)?;
-    let _ = words.next();
-    let Some(name) = words.next() else {
-        let mut bytes = Vec::new(rt.alloc());
-        rt.stdin().read_to_end(&mut bytes)?;
-        return Ok(Some(bytes));
-    };
-    if words.next().is_some() {
-        return Err(anyhow!("usage: inspect [FILE]"));
-    }
-    match fs::read(rt, &name) {
-        Ok(bytes) => Ok(Some(bytes)),
-        Err(why) => {
-            eprintln!(rt; "inspect: {name} cannot be read: {why}")?;
-            Ok(None)
+// The bytes of the file named, or else of standard input.
+fn read_input(rt: &HostRuntime) -> anyhow::Result<Vec<u8>> {
+    let mut words = env::args(rt)?.skip(1);
+    match (words.next(), words.next()) {
+        (None, _) => {
+            let mut bytes = Vec::new(rt.alloc());
+            rt.stdin().read_to_end(&mut bytes)?;
+            Ok(bytes)
         }
+        (Some(name), None) => read_named(rt, &name),
+        _ => Err(anyhow!("usage: inspect [FILE]")),
     }
-}
-
-// A point or a descriptor, which are printable bytes and blanks.
-fn print_text(rt: &HostRuntime, text: &[u8]) -> anyhow::Result<()> {
-    for b in text {
-        let c = *b as char;
-        print!(rt; "{c}")?;
-    }
-    Ok(())
 }
 
 fn print_detail(rt: &HostRuntime, number: usize, line: DetailLine<'_>) -> anyhow::Result<()> {
@@ -54,11 +39,9 @@ fn print_detail(rt: &HostRuntime, number: usize, line: DetailLine<'_>) -> anyhow
         tariff,
         amounts,
     } = line;
-    print!(rt; "{number:>6}  {month}  ")?;
-    print_text(rt, point)?;
-    print!(rt; "  ")?;
-    print_text(rt, descriptor)?;
-    print!(rt; "  {calls:>12} {tenths:>13}  ")?;
+    let point = str::from_utf8(point)?;
+    let descriptor = str::from_utf8(descriptor)?;
+    print!(rt; "{number:>6}  {month}  {point}  {descriptor}  {calls:>12} {tenths:>13}  ")?;
     print_rate(rt, tariff)?;
     print_amounts(rt, amounts)
 }
@@ -74,10 +57,11 @@ fn print_total(rt: &HostRuntime, line: TotalLine) -> anyhow::Result<()> {
 }
 
 fn print_file(rt: &HostRuntime, file: Declared<'_>) -> anyhow::Result<()> {
-    let head = file.head();
-    let creditor = head.creditor;
-    let debtor = head.debtor;
-    let reference = head.reference;
+    let Head {
+        creditor,
+        debtor,
+        reference,
+    } = file.head();
     let count = file.detail_count();
     println!(rt;
         "creditor {creditor:03}, debtor {debtor:03}, reference month {reference}, {count} detail lines"
@@ -85,36 +69,30 @@ fn print_file(rt: &HostRuntime, file: Declared<'_>) -> anyhow::Result<()> {
     println!(rt;
         "  line  month   point       descr         calls        tenths    tariff                net         PIS/COFINS               ICMS              gross"
     )?;
-    for i in 0..count.saturating_add(1) {
-        match file.line(i) {
-            Some(DeclaredLine::Detail(line)) => print_detail(rt, i.saturating_add(1), line)?,
-            Some(DeclaredLine::Total(line)) => print_total(rt, line)?,
-            None => {}
-        }
+    for (i, line) in file.details().enumerate() {
+        print_detail(rt, i + 1, line)?;
+    }
+    if let Some(DeclaredLine::Total(total)) = file.line(count) {
+        print_total(rt, total)?;
     }
     Ok(())
 }
 
-fn inspect(rt: &HostRuntime) -> anyhow::Result<ExitCode> {
-    let Some(bytes) = read_input(rt)? else {
-        return Ok(ExitCode::FAILURE);
-    };
-    match file::read(&bytes) {
-        Ok(file) => {
-            print_file(rt, file)?;
-            Ok(ExitCode::SUCCESS)
-        }
-        Err(fault) => {
-            let text = explain(rt, &bytes, fault)?;
-            eprintln!(rt; "inspect: {text}")?;
-            Ok(ExitCode::FAILURE)
-        }
-    }
+fn inspect(rt: &HostRuntime) -> anyhow::Result<()> {
+    let bytes = read_input(rt)?;
+    let file = file::read(&bytes).map_err(|fault| {
+        let why = Refusal {
+            bytes: &bytes,
+            fault,
+        };
+        anyhow!("{why}")
+    })?;
+    print_file(rt, file)
 }
 
 fn main(rt: HostRuntime) -> ExitCode {
     match inspect(&rt) {
-        Ok(code) => code,
+        Ok(()) => ExitCode::SUCCESS,
         Err(why) => {
             let _ = eprintln!(rt; "inspect: {why}");
             ExitCode::FAILURE
