@@ -12,14 +12,12 @@ use ledger::store::RowStore;
 use piles::pile::{Pile, ROOM_FOR_500, over};
 use piles::user::StoreUser;
 use statement::statement::Statement;
-use values::calendar::Month;
-use values::terms::Terms;
+use values::terms::Basis;
 
 // What is settled, the records in the order in which they are taken.
 #[derive(Clone, Copy)]
 pub struct Input<'a> {
-    pub terms: Terms,
-    pub reference: Month,
+    pub basis: Basis,
     pub book: FileBook<'a>,
     pub records: &'a [&'a [u8]],
 }
@@ -44,7 +42,7 @@ impl<'a> Share<'a> {
         requires days { StoreKept day_keys (D.RowStore.ledger days) (D.RowStore.kept days) }
     {
         let input = self.input;
-        let mut statement = Statement::open(input.terms, input.reference, lines, days);
+        let mut statement = Statement::open(input.basis, lines, days);
         for record in input.records.iter().skip(self.unit).step_by(self.units) {
             let _ = statement.take(&input.book, *record);
         }

@@ -14,6 +14,7 @@ use settlement::month::{MONTH_LINE, read_month};
 use std::io::Read;
 use std::process::ExitCode;
 use values::calendar::Month;
+use values::terms::Basis;
 
 // The reference month on the first line, and the bytes after it.
 fn split_reference(text: &[u8]) -> anyhow::Result<(Month, &[u8])> {
@@ -43,8 +44,7 @@ fn deal(rt: &HostRuntime) -> anyhow::Result<()> {
     run(
         rt,
         Input {
-            terms,
-            reference,
+            basis: Basis { terms, reference },
             book: FileBook::new(&agreement),
             records: &records,
         },

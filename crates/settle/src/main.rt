@@ -18,8 +18,7 @@ use statement::statement::Statement;
 use std::env;
 use std::io::Write;
 use std::process::ExitCode;
-use values::calendar::Month;
-use values::terms::Terms;
+use values::terms::Basis;
 
 // The stores that the arguments may ask for.
 const CHOICES: [Pile; 4] = [Pile::Table, Pile::Image, Pile::HeldTable, Pile::HeldImage];
@@ -45,8 +44,7 @@ fn print<L: RowStore<Row = LineRow>, D: RowStore<Row = DayRow>>(
 // The settlement of the records on standard input.
 #[derive(Drop)]
 struct Job<'a> {
-    terms: Terms,
-    reference: Month,
+    basis: Basis,
     book: FileBook<'a>,
 }
 
@@ -59,7 +57,7 @@ impl<'a> StoreUser for Job<'a> {
         lines: L,
         days: D,
     ) -> anyhow::Result<()> {
-        let mut settlement = Settlement::open(self.terms, self.reference, lines, days, self.book);
+        let mut settlement = Settlement::open(self.basis, lines, days, self.book);
         feed_all(rt, &mut settlement)?;
         let mut statement = settlement.finish();
         print(rt, &mut statement)
@@ -89,12 +87,8 @@ fn settle(rt: &HostRuntime) -> anyhow::Result<()> {
     let terms = read_terms(rt, &bytes)?;
     let reference = read_reference(rt)?;
     let book = FileBook::new(&bytes);
-    let job = Job {
-        terms,
-        reference,
-        book,
-    };
-    over(rt, pile, ROOM_FOR_500, job)
+    let basis = Basis { terms, reference };
+    over(rt, pile, ROOM_FOR_500, Job { basis, book })
 }
 
 fn main(rt: HostRuntime) -> ExitCode {

@@ -15,8 +15,7 @@ use settlement::month::{MONTH_LINE, read_month};
 use settlement::settlement::Settlement;
 use std::fs;
 use std::io::Read;
-use values::calendar::Month;
-use values::terms::Terms;
+use values::terms::Basis;
 
 // So few rows that some records are refused for space, and images with a rest that holds no whole row.
 const ROOM: Room = Room {
@@ -36,8 +35,7 @@ const OTHERS: [Pile; 5] = [
 
 #[derive(Clone, Copy)]
 struct Input<'a> {
-    terms: Terms,
-    reference: Month,
+    basis: Basis,
     agreement: &'a [u8],
     records: &'a [u8],
 }
@@ -53,7 +51,7 @@ impl<'a> StoreUser for Input<'a> {
         days: D,
     ) -> anyhow::Result<Vec<u8>> {
         let book = FileBook::new(self.agreement);
-        let mut settlement = Settlement::open(self.terms, self.reference, lines, days, book);
+        let mut settlement = Settlement::open(self.basis, lines, days, book);
         settlement.feed(self.records);
         let mut statement = settlement.finish();
         summary::summary(rt, &mut statement)
@@ -95,8 +93,7 @@ fn main(rt: HostRuntime) -> anyhow::Result<()> {
     run(
         &rt,
         Input {
-            terms,
-            reference,
+            basis: Basis { terms, reference },
             agreement: &agreement,
             records,
         },

@@ -17,7 +17,7 @@ use std::fs;
 use std::io::{BufRead, BufReader, Write};
 use stores::table::TableStore;
 use values::calendar::Month;
-use values::terms::Terms;
+use values::terms::Basis;
 
 const ROWS: usize = 2;
 
@@ -163,13 +163,12 @@ fn read_months(rt: &HostRuntime) -> anyhow::Result<()> {
     Ok(())
 }
 
-fn run(rt: &HostRuntime, terms: Terms, reference: Month, bytes: &[u8]) -> anyhow::Result<()> {
+fn run(rt: &HostRuntime, basis: Basis, bytes: &[u8]) -> anyhow::Result<()> {
     let mut lines = [LineCell::default(); ROWS];
     let mut days = [DayCell::default(); ROWS];
     let book = FileBook::new(bytes);
     let mut statement = Statement::open(
-        terms,
-        reference,
+        basis,
         TableStore::<LineRow>::new(&mut lines),
         TableStore::<DayRow>::new(&mut days),
     );
@@ -182,7 +181,7 @@ fn main(rt: HostRuntime) -> anyhow::Result<()> {
     let bytes = fs::read(&rt, "agreement")?;
     let terms = agreement::reader::open(&bytes).map_err(|_| anyhow!("the agreement is refused"))?;
     let reference = Month::new(202403).ok_or_else(|| anyhow!("no such month"))?;
-    run(&rt, terms, reference, &bytes)?;
+    run(&rt, Basis { terms, reference }, &bytes)?;
     damage(&rt, &bytes)?;
     show_open(&rt, &[])?;
     read_months(&rt)
