@@ -25,6 +25,7 @@ use verdicts::verdict::Verdict;
 // How many months before the reference month, the earliest first.
 const BACK: [u8; 3] = [2, 1, 0];
 
+// For a person to read; a verdict is the library's, which prints nothing.
 fn words(verdict: Verdict) -> &'static str {
     match verdict {
         Verdict::Right => "right",
