@@ -26,13 +26,13 @@ use values::terms::Terms;
 // Rows of each store.
 const ROWS: usize = 500;
 
-// The bytes of the declared file.
-fn read_declared(rt: &HostRuntime) -> anyhow::Result<Vec<u8>> {
+// The bytes of the declared file; none where it cannot be read, which is then said.
+fn read_declared(rt: &HostRuntime) -> anyhow::Result<Option<Vec<u8>>> {
     let mut words = env::args(rt)?.skip(1);
     let (Some(name), None) = (words.next(), words.next()) else {
         return Err(anyhow!("usage: contest DECLARED < RECORDS"));
     };
-    read_named(rt, &name)
+    read_named(rt, "contest", &name)
 }
 
 // Settles the records on standard input over two stores, and contests the declared file against them. The stores are of
@@ -44,7 +44,7 @@ fn contest_over<L: RowStore<Row = LineRow> + Drop, D: RowStore<Row = DayRow> + D
     declared: &[u8],
     lines: L,
     days: D,
-) -> anyhow::Result<()>
+) -> anyhow::Result<ExitCode>
     requires lines { StoreKept line_keys (L.RowStore.ledger lines) (L.RowStore.kept lines) }
     requires days { StoreKept day_keys (D.RowStore.ledger days) (D.RowStore.kept days) }
 {
@@ -54,8 +54,10 @@ fn contest_over<L: RowStore<Row = LineRow> + Drop, D: RowStore<Row = DayRow> + D
     report(rt, &mut settlement.finish(), &book, declared)
 }
 
-fn contest(rt: &HostRuntime) -> anyhow::Result<()> {
-    let declared = read_declared(rt)?;
+fn contest(rt: &HostRuntime) -> anyhow::Result<ExitCode> {
+    let Some(declared) = read_declared(rt)? else {
+        return Ok(ExitCode::FAILURE);
+    };
     let agreement = read_agreement(rt)?;
     let terms = read_terms(rt, &agreement)?;
     let mut lines = vec![in rt.alloc(); LineCell::default(); ROWS]?;
@@ -72,7 +74,7 @@ fn contest(rt: &HostRuntime) -> anyhow::Result<()> {
 
 fn main(rt: HostRuntime) -> ExitCode {
     match contest(&rt) {
-        Ok(()) => ExitCode::SUCCESS,
+        Ok(code) => code,
         Err(why) => {
             let _ = eprintln!(rt; "contest: {why}");
             ExitCode::FAILURE

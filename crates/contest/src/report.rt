@@ -1,6 +1,5 @@
 // The report: each line with its verdict in words, each month with what both sides have, and a summary.
 use agreement::book::FileBook;
-use anyhow::{Error, anyhow};
 use declared::file;
 use declared::file::Declared;
 use declared::lines::{DetailLine, Head};
@@ -12,6 +11,7 @@ use ledger::line::LineRow;
 use ledger::store::RowStore;
 use ledger::traffic::Traffic;
 use statement::statement::Statement;
+use std::process::ExitCode;
 use std::{fmt, str};
 use values::calendar::Month;
 use values::rates::Tariff;
@@ -25,6 +25,7 @@ use verdicts::verdict::Verdict;
 // How many months before the reference month, the earliest first.
 const BACK: [u8; 3] = [2, 1, 0];
 
+// For a person to read; a verdict is the library's, which prints nothing.
 fn words(verdict: Verdict) -> &'static str {
     match verdict {
         Verdict::Right => "right",
@@ -198,22 +199,24 @@ impl fmt::Display for ContestRefusal<'_> {
     }
 }
 
-fn refused(bytes: &[u8], fault: ContestFault) -> Error {
-    let refusal = ContestRefusal { bytes, fault };
-    anyhow!("{refusal}")
+// The file once contested, and how many verdicts stand in the buffer.
+fn judged<'a, L: RowStore<Row = LineRow>, D: RowStore<Row = DayRow>>(
+    statement: &Statement<L, D>,
+    book: &FileBook,
+    bytes: &'a [u8],
+    verdicts: &mut [u8],
+) -> Result<(Declared<'a>, usize), ContestFault> {
+    let count = contest(statement, book, bytes, verdicts)?;
+    Ok((file::read(bytes)?, count))
 }
 
-pub fn report<L: RowStore<Row = LineRow>, D: RowStore<Row = DayRow>>(
+fn print_report<L: RowStore<Row = LineRow>, D: RowStore<Row = DayRow>>(
     rt: &HostRuntime,
     statement: &mut Statement<L, D>,
     book: &FileBook,
-    bytes: &[u8],
+    file: Declared<'_>,
+    verdicts: &[u8],
 ) -> anyhow::Result<()> {
-    let mut verdicts = vec![in rt.alloc(); 0u8; bytes.len() / LINE_WIDTH]?;
-    let file = file::read(bytes).map_err(|fault| refused(bytes, ContestFault::Read(fault)))?;
-    let count = contest(statement, book, bytes, &mut verdicts).map_err(|fault| refused(
-        bytes, fault,
-    ))?;
     let Head {
         creditor,
         debtor,
@@ -225,5 +228,27 @@ pub fn report<L: RowStore<Row = LineRow>, D: RowStore<Row = DayRow>>(
     for month in months.iter().flatten() {
         print_month(rt, *month)?;
     }
-    print_summary(rt, verdicts.get(..count).unwrap_or_default(), months)
+    print_summary(rt, verdicts, months)
+}
+
+pub fn report<L: RowStore<Row = LineRow>, D: RowStore<Row = DayRow>>(
+    rt: &HostRuntime,
+    statement: &mut Statement<L, D>,
+    book: &FileBook,
+    bytes: &[u8],
+) -> anyhow::Result<ExitCode> {
+    let mut verdicts = vec![in rt.alloc(); 0u8; bytes.len() / LINE_WIDTH]?;
+    match judged(statement, book, bytes, &mut verdicts) {
+        Ok((file, count)) => {
+            let verdicts = verdicts.get(..count).unwrap_or_default();
+            print_report(rt, statement, book, file, verdicts)?;
+            Ok(ExitCode::SUCCESS)
+        }
+        Err(fault) => {
+            // printed here, since an error keeps 120 bytes of its text
+            let refusal = ContestRefusal { bytes, fault };
+            eprintln!(rt; "contest: {refusal}")?;
+            Ok(ExitCode::FAILURE)
+        }
+    }
 }

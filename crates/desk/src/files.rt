@@ -1,8 +1,13 @@
 // A file that a program's argument names.
-use anyhow::anyhow;
 use std::fs;
 
-// Its bytes, or that it cannot be read, and why.
-pub fn read_named(rt: &HostRuntime, name: &str) -> anyhow::Result<Vec<u8>> {
-    fs::read(rt, name).map_err(|why| anyhow!("{name} cannot be read: {why}"))
+// Its bytes; none where it cannot be read, which is then said: an error would keep 120 bytes of the text.
+pub fn read_named(rt: &HostRuntime, program: &str, name: &str) -> anyhow::Result<Option<Vec<u8>>> {
+    match fs::read(rt, name) {
+        Ok(bytes) => Ok(Some(bytes)),
+        Err(why) => {
+            eprintln!(rt; "{program}: {name} cannot be read: {why}")?;
+            Ok(None)
+        }
+    }
 }

@@ -15,16 +15,16 @@ use std::io::Read;
 use std::process::ExitCode;
 use std::{env, str};
 
-// The bytes of the file named, or else of standard input.
-fn read_input(rt: &HostRuntime) -> anyhow::Result<Vec<u8>> {
+// The bytes of the file named, or else of standard input; none where the file cannot be read, which is then said.
+fn read_input(rt: &HostRuntime) -> anyhow::Result<Option<Vec<u8>>> {
     let mut words = env::args(rt)?.skip(1);
     match (words.next(), words.next()) {
         (None, _) => {
             let mut bytes = Vec::new(rt.alloc());
             rt.stdin().read_to_end(&mut bytes)?;
-            Ok(bytes)
+            Ok(Some(bytes))
         }
-        (Some(name), None) => read_named(rt, &name),
+        (Some(name), None) => read_named(rt, "inspect", &name),
         _ => Err(anyhow!("usage: inspect [FILE]")),
     }
 }
@@ -78,21 +78,30 @@ fn print_file(rt: &HostRuntime, file: Declared<'_>) -> anyhow::Result<()> {
     Ok(())
 }
 
-fn inspect(rt: &HostRuntime) -> anyhow::Result<()> {
-    let bytes = read_input(rt)?;
-    let file = file::read(&bytes).map_err(|fault| {
-        let why = Refusal {
-            bytes: &bytes,
-            fault,
-        };
-        anyhow!("{why}")
-    })?;
-    print_file(rt, file)
+fn inspect(rt: &HostRuntime) -> anyhow::Result<ExitCode> {
+    let Some(bytes) = read_input(rt)? else {
+        return Ok(ExitCode::FAILURE);
+    };
+    match file::read(&bytes) {
+        Ok(file) => {
+            print_file(rt, file)?;
+            Ok(ExitCode::SUCCESS)
+        }
+        Err(fault) => {
+            // printed here, since an error keeps 120 bytes of its text
+            let refusal = Refusal {
+                bytes: &bytes,
+                fault,
+            };
+            eprintln!(rt; "inspect: {refusal}")?;
+            Ok(ExitCode::FAILURE)
+        }
+    }
 }
 
 fn main(rt: HostRuntime) -> ExitCode {
     match inspect(&rt) {
-        Ok(()) => ExitCode::SUCCESS,
+        Ok(code) => code,
         Err(why) => {
             let _ = eprintln!(rt; "inspect: {why}");
             ExitCode::FAILURE
