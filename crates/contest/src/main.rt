@@ -21,7 +21,7 @@ use settlement::settlement::Settlement;
 use std::env;
 use std::process::ExitCode;
 use stores::table::TableStore;
-use values::terms::Terms;
+use values::terms::Basis;
 
 // Rows of each store.
 const ROWS: usize = 500;
@@ -39,7 +39,7 @@ fn read_declared(rt: &HostRuntime) -> anyhow::Result<Option<Vec<u8>>> {
 // any type, since the borrow check does not cover a settlement whose own type lends them for writing.
 fn contest_over<L: RowStore<Row = LineRow> + Drop, D: RowStore<Row = DayRow> + Drop>(
     rt: &HostRuntime,
-    terms: Terms,
+    basis: Basis,
     book: FileBook<'_>,
     declared: &[u8],
     lines: L,
@@ -48,8 +48,7 @@ fn contest_over<L: RowStore<Row = LineRow> + Drop, D: RowStore<Row = DayRow> + D
     requires lines { StoreKept line_keys (L.RowStore.ledger lines) (L.RowStore.kept lines) }
     requires days { StoreKept day_keys (D.RowStore.ledger days) (D.RowStore.kept days) }
 {
-    let reference = read_reference(rt)?;
-    let mut settlement = Settlement::open(terms, reference, lines, days, book);
+    let mut settlement = Settlement::open(basis, lines, days, book);
     feed_all(rt, &mut settlement)?;
     report(rt, &mut settlement.finish(), &book, declared)
 }
@@ -60,11 +59,12 @@ fn contest(rt: &HostRuntime) -> anyhow::Result<ExitCode> {
     };
     let agreement = read_agreement(rt)?;
     let terms = read_terms(rt, &agreement)?;
+    let reference = read_reference(rt)?;
     let mut lines = vec![in rt.alloc(); LineCell::default(); ROWS]?;
     let mut days = vec![in rt.alloc(); DayCell::default(); ROWS]?;
     contest_over(
         rt,
-        terms,
+        Basis { terms, reference },
         FileBook::new(&agreement),
         &declared,
         TableStore::<LineRow>::new(&mut lines),

@@ -13,9 +13,8 @@ use ledger::traffic::Traffic;
 use statement::statement::Statement;
 use std::process::ExitCode;
 use std::{fmt, str};
-use values::calendar::Month;
 use values::rates::Tariff;
-use values::terms::Terms;
+use values::terms::Basis;
 use verdicts::contesting::contest;
 use verdicts::faults::ContestFault;
 use verdicts::judging::judge;
@@ -59,11 +58,11 @@ fn print_amounts(rt: &HostRuntime, name: &str, amounts: Amounts) -> anyhow::Resu
 }
 
 // What the amounts of a line should be.
-fn print_expected(rt: &HostRuntime, terms: Terms, line: DetailLine<'_>) -> anyhow::Result<()> {
+fn print_expected(rt: &HostRuntime, basis: Basis, line: DetailLine<'_>) -> anyhow::Result<()> {
     if let Some((traffic, tariff)) = Traffic::new(line.calls, line.tenths).zip(Tariff::new(
         line.tariff,
     )) {
-        print_amounts(rt, "expected", Amounts::new(traffic, tariff, terms.rates()))?;
+        print_amounts(rt, "expected", Amounts::new(traffic, tariff, basis.terms.rates()))?;
     }
     Ok(())
 }
@@ -73,7 +72,7 @@ fn print_line(
     number: usize,
     line: DetailLine<'_>,
     verdict: Verdict,
-    terms: Terms,
+    basis: Basis,
 ) -> anyhow::Result<()> {
     let DetailLine {
         month,
@@ -92,21 +91,20 @@ fn print_line(
     )?;
     print_amounts(rt, "declared", line.amounts)?;
     match verdict {
-        Verdict::Net | Verdict::Tax => print_expected(rt, terms, line),
+        Verdict::Net | Verdict::Tax => print_expected(rt, basis, line),
         _ => Ok(()),
     }
 }
 
 fn print_lines(
     rt: &HostRuntime,
-    terms: Terms,
-    reference: Month,
+    basis: Basis,
     book: &FileBook,
     file: Declared<'_>,
 ) -> anyhow::Result<()> {
     for (i, line) in file.details().enumerate() {
-        let verdict = judge(terms, reference, book, line);
-        print_line(rt, i + 1, line, verdict, terms)?;
+        let verdict = judge(basis, book, line);
+        print_line(rt, i + 1, line, verdict, basis)?;
     }
     Ok(())
 }
@@ -223,7 +221,7 @@ fn print_report<L: RowStore<Row = LineRow>, D: RowStore<Row = DayRow>>(
         reference,
     } = file.head();
     println!(rt; "creditor {creditor:03}, debtor {debtor:03}, reference month {reference}")?;
-    print_lines(rt, statement.terms(), statement.reference(), book, file)?;
+    print_lines(rt, statement.basis(), book, file)?;
     let months = BACK.map(|back| contest_month(statement, file, back));
     for month in months.iter().flatten() {
         print_month(rt, *month)?;

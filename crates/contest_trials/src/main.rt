@@ -18,8 +18,7 @@ use statement::statement::Statement;
 use std::fs;
 use std::io::{BufRead, BufReader};
 use stores::table::TableStore;
-use values::calendar::Month;
-use values::terms::Terms;
+use values::terms::Basis;
 use verdicts::contesting::contest;
 use verdicts::faults::ContestFault;
 use verdicts::months::{MonthContest, contest_month};
@@ -121,8 +120,7 @@ fn show_all<L: RowStore<Row = LineRow>, D: RowStore<Row = DayRow>>(
 // check does not cover a settlement whose own type lends them for writing.
 fn run<L: RowStore<Row = LineRow> + Drop, D: RowStore<Row = DayRow> + Drop>(
     rt: &HostRuntime,
-    terms: Terms,
-    reference: Month,
+    basis: Basis,
     book: FileBook<'_>,
     records: &[u8],
     lines: L,
@@ -131,7 +129,7 @@ fn run<L: RowStore<Row = LineRow> + Drop, D: RowStore<Row = DayRow> + Drop>(
     requires lines { StoreKept line_keys (L.RowStore.ledger lines) (L.RowStore.kept lines) }
     requires days { StoreKept day_keys (D.RowStore.ledger days) (D.RowStore.kept days) }
 {
-    let mut settlement = Settlement::open(terms, reference, lines, days, book);
+    let mut settlement = Settlement::open(basis, lines, days, book);
     settlement.feed(records);
     show_all(rt, &mut settlement.finish(), &book)
 }
@@ -150,8 +148,7 @@ fn main(rt: HostRuntime) -> anyhow::Result<()> {
     let mut days = [DayCell::default(); ROWS];
     run(
         &rt,
-        terms,
-        reference,
+        Basis { terms, reference },
         FileBook::new(&agreement),
         records,
         TableStore::<LineRow>::new(&mut lines),
