@@ -62,7 +62,11 @@ fn print_expected(rt: &HostRuntime, basis: Basis, line: DetailLine<'_>) -> anyho
     if let Some((traffic, tariff)) = Traffic::new(line.calls, line.tenths).zip(Tariff::new(
         line.tariff,
     )) {
-        print_amounts(rt, "expected", Amounts::new(traffic, tariff, basis.terms.rates()))?;
+        print_amounts(
+            rt,
+            "expected",
+            Amounts::new(traffic, tariff, basis.terms.rates()),
+        )?;
     }
     Ok(())
 }
