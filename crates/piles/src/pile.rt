@@ -1,4 +1,7 @@
 // The piles, by name.
+ghost use Rattle.std.specs.Prelude.{◌≡◌};
+ghost use Rattle.piles.specs.Piles.{pile_name};
+
 use crate::memory::{in_both, in_images, in_tables};
 use crate::user::{DaysHeld, Held, StoreUser};
 
@@ -29,7 +32,9 @@ pub enum Pile {
 }
 
 impl Pile {
-    pub fn name(self) -> &'static str {
+    pub fn name(self) -> &'static str
+        ensures { result.now ≡ pile_name self }
+    {
         match self {
             Pile::Table => "table",
             Pile::Image => "image",
