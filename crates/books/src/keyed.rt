@@ -2,8 +2,7 @@
 ghost use Rattle.std.specs.Prelude.{◌≡◌};
 
 pub trait Keyed: Copy {
-    // Ordered, so that a list may also be searched by the order of its keys.
-    type Key: Copy + Ord;
+    type Key: Copy + Eq;
 
     ghost keys: { Self → Self.Key };
 

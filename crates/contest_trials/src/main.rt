@@ -140,9 +140,9 @@ fn main(rt: HostRuntime) -> anyhow::Result<()> {
     let terms = agreement::reader::open(&agreement).map_err(|_| anyhow!(
         "the agreement is refused"
     ))?;
-    let Some((month, records)) = records.split_at_checked(MONTH_LINE) else {
-        return Err(anyhow!("there is no month"));
-    };
+    let (month, records) = records
+        .split_at_checked(MONTH_LINE)
+        .ok_or_else(|| anyhow!("there is no month"))?;
     let reference = read_month(month).ok_or_else(|| anyhow!("the month is refused"))?;
     let mut lines = [LineCell::default(); ROWS];
     let mut days = [DayCell::default(); ROWS];

@@ -7,16 +7,14 @@ use ledger::day::DayRow;
 use ledger::line::LineRow;
 use ledger::store::RowStore;
 use piles::rows::list_rows;
-use statement::board::{GREATEST_NUMBER, LEAST_NUMBER, RefusalBoard};
+use statement::board::RefusalBoard;
+use statement::faults::StoreFault;
 use statement::statement::Statement;
 
 // Bytes of the longest file, and more rows than a store here holds.
 const FILE: usize = 64_629;
 
 const ROWS: usize = 1_000;
-
-// The numbers of the refusals for space.
-const SPACE: [u8; 2] = [12, 13];
 
 #[derive(Drop)]
 pub struct Contents {
@@ -64,15 +62,10 @@ impl Contents {
 
     // Whether a store had no room for some record.
     pub fn refused_for_space(&self) -> bool {
-        SPACE
+        [StoreFault::LinesFull, StoreFault::DaysFull]
             .iter()
-            .filter_map(|number| self.board.tally(*number))
+            .filter_map(|fault| self.board.tally(fault.number()))
             .any(|tally| tally.count > 0)
-    }
-
-    fn same_refusals(&self, other: &Contents) -> bool {
-        (LEAST_NUMBER..=GREATEST_NUMBER).all(|number| self.board.tally(number)
-            == other.board.tally(number))
     }
 
     // In words, or none where nothing differs.
@@ -83,7 +76,7 @@ impl Contents {
             Some("the lines differ")
         } else if self.days != other.days {
             Some("the days differ")
-        } else if !self.same_refusals(other) {
+        } else if self.board != other.board {
             Some("the refusals differ")
         } else if self.taken != other.taken {
             Some("the numbers of records taken differ")

@@ -43,7 +43,7 @@ pub fn feed_all<L: RowStore<Row = LineRow>, D: RowStore<Row = DayRow>, B: Tariff
 ) -> anyhow::Result<()> {
     let mut input = rt.stdin();
     let mut piece = vec![in rt.alloc(); 0u8; PIECE]?;
-    // A count that no input reaches: a loop with no end would ask for a handle.
+    // A count that no input reaches: a loop that may never end needs a permission that the gate does not give.
     for _ in 0..u64::MAX {
         let n = input.read(&mut piece)?;
         if n == 0 {

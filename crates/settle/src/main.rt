@@ -66,8 +66,7 @@ impl<'a> StoreUser for Job<'a> {
 
 // Which stores the arguments ask for.
 fn read_choice(rt: &HostRuntime) -> anyhow::Result<Pile> {
-    let mut words = env::args(rt)?;
-    let _ = words.next();
+    let mut words = env::args(rt)?.skip(1);
     let Some(word) = words.next() else {
         return Ok(Pile::Table);
     };
