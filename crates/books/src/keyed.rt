@@ -2,7 +2,8 @@
 ghost use Rattle.std.specs.Prelude.{◌≡◌};
 
 pub trait Keyed: Copy {
-    type Key: Copy + Eq;
+    // Ordered, so that a list may also be searched by the order of its keys.
+    type Key: Copy + Ord;
 
     ghost keys: { Self → Self.Key };
 
