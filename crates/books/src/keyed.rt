@@ -2,7 +2,7 @@
 ghost use Rattle.std.specs.Prelude.{◌≡◌};
 
 pub trait Keyed: Copy {
-    // Ordered, so that a list may also be searched by the order of its keys.
+    // Ordered, as all keys here are; a list compares them by `==` alone.
     type Key: Copy + Ord;
 
     ghost keys: { Self → Self.Key };
