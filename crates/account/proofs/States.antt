@@ -60,7 +60,7 @@ Shows r p = (call : CallRecord) × (read_record r ≡ Ok call) × (call.time ≡
 
 record_counted : (s : ℕ) (f : RecordFault) → Counted (Record (charged_to s f))
 record_counted s (Length n) = (omega arith, omega arith)
-record_counted s (Malformed f) = (omega arith, omega arith)
+record_counted s (Malformed f c) = (omega arith, omega arith)
 record_counted s Category = (omega arith, omega arith)
 record_counted s Selection = (omega arith, omega arith)
 record_counted s Sliced = (omega arith, omega arith)

@@ -8,7 +8,7 @@ use Rattle.cdr.specs.declared.fields.Field.{Field}
 
 abbrev pub record_number : RecordFault → ℕ
 record_number (Length n) = 2
-record_number (Malformed f) = 3
+record_number (Malformed f c) = 3
 record_number Category = 4
 record_number Selection = 5
 record_number Sliced = 6
@@ -16,7 +16,7 @@ record_number Cause = 7
 
 abbrev pub record_place : RecordFault → Place
 record_place (Length n) = Place.Length n
-record_place (Malformed f) = Place.Column f
+record_place (Malformed f c) = Place.Column f c
 record_place Category = Place.Field Field.Category
 record_place Selection = Place.Field Field.Selection
 record_place Sliced = Place.Field Field.Cause
@@ -25,8 +25,8 @@ record_place Cause = Place.Field Field.Cause
 abbrev pub charged_to : {F : Type 0} → ℕ → F → Charged F
 charged_to s f = record { fault = f; sequential = s }
 
-abbrev pub malformed_at : Field → ℕ → Charged RecordFault
-malformed_at field s = charged_to s (Malformed field)
+abbrev pub malformed_at : ℕ → ℕ → ℕ → Charged RecordFault
+malformed_at field column s = charged_to s (Malformed field column)
 
 abbrev pub charge : {T F : Type 0} → ℕ → Result T F → Result T (Charged F)
 charge s (Ok x) = Ok x

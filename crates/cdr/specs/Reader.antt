@@ -9,6 +9,7 @@ use Rattle.cdr.specs.declared.faults.RecordFault.{RecordFault}
 use Rattle.cdr.specs.declared.faults.RecordFault.TheVariants.{Length, Category, Selection, Sliced, Cause}
 use Rattle.cdr.specs.declared.fields.Field.{Field}
 use Rattle.cdr.specs.Faults.{charge, charged_to, malformed_at}
+use Rattle.cdr.specs.Fields.{field_number, field_column}
 
 -- the bytes of columns a to e
 abbrev pub columns : ℕ → ℕ → List ℕ → List ℕ
@@ -22,9 +23,13 @@ column a bs = slice_index bs (a - 1)
 abbrev pub sequential_in : List ℕ → Option ℕ
 sequential_in cs = and_then (numeral 10 cs) (λ n. cond (nat_lt 0 n) (Some n) None)
 
+-- a malformed field, by its number and first column, charged to a sequential
+abbrev pub unsound : Field → ℕ → Charged RecordFault
+unsound f s = malformed_at (field_number f) (field_column f) s
+
 -- a sound field goes on to the next; any other is malformed, charged to the record's sequential
 abbrev pub field : {A B : Type 0} → Field → ℕ → Option A → (A → Result B (Charged RecordFault)) → Result B (Charged RecordFault)
-field f s None next = Err (malformed_at f s)
+field f s None next = Err (unsound f s)
 field f s (Some v) next = next v
 
 -- the fields of a record of 129 bytes, in the order in which they are judged

@@ -5,18 +5,19 @@ ghost use Rattle.cdr.specs.Faults.{record_number, record_place, malformed_at, ch
 use crate::fields::Field;
 
 // Where in the record a refusal lies: in its length, in a field, or at the first column of a field that is malformed.
+// What is malformed is told by the numbers that are printed.
 #[derive(Clone, Copy, PartialEq, Eq, Debug)]
 pub enum Place {
     Length(usize),
     Field(Field),
-    Column(Field),
+    Column { field: u8, column: u8 },
 }
 
 // The reader's faults.
 #[derive(Clone, Copy, PartialEq, Eq, Debug)]
 pub enum RecordFault {
     Length(usize),
-    Malformed(Field),
+    Malformed { field: u8, column: u8 },
     Category,
     Selection,
     Sliced,
@@ -31,12 +32,12 @@ pub struct Charged<F> {
     pub sequential: u64,
 }
 
-// A malformed field of the record of this sequential.
-pub fn malformed(field: Field, sequential: u64) -> Charged<RecordFault>
-    ensures { result ≡ malformed_at field sequential }
+// A malformed field by its number and first column.
+pub fn malformed(field: u8, column: u8, sequential: u64) -> Charged<RecordFault>
+    ensures { result ≡ malformed_at field column sequential }
 {
     Charged {
-        fault: RecordFault::Malformed(field),
+        fault: RecordFault::Malformed { field, column },
         sequential,
     }
 }
@@ -54,7 +55,7 @@ impl RecordFault {
     {
         match self {
             RecordFault::Length(_) => 2,
-            RecordFault::Malformed(_) => 3,
+            RecordFault::Malformed { .. } => 3,
             RecordFault::Category => 4,
             RecordFault::Selection => 5,
             RecordFault::Sliced => 6,
@@ -67,7 +68,7 @@ impl RecordFault {
     {
         match self {
             RecordFault::Length(length) => Place::Length(length),
-            RecordFault::Malformed(field) => Place::Column(field),
+            RecordFault::Malformed { field, column } => Place::Column { field, column },
             RecordFault::Category => Place::Field(Field::Category),
             RecordFault::Selection => Place::Field(Field::Selection),
             RecordFault::Sliced | RecordFault::Cause => Place::Field(Field::Cause),

@@ -6,7 +6,7 @@ pub mod faults;
 pub mod fields;
 
 ghost use Rattle.std.specs.Prelude.{◌≡◌};
-ghost use Rattle.cdr.specs.Reader.{sequential_in, read_fields, judged, read_record};
+ghost use Rattle.cdr.specs.Reader.{sequential_in, unsound, read_fields, judged, read_record};
 
 use call::CallRecord;
 use digits::read_decimal;
@@ -26,12 +26,19 @@ fn read_sequential(bytes: &[u8]) -> Option<u64>
     read_decimal(bytes, 10).filter(|n| *n > 0)
 }
 
+// A malformed field, charged to a sequential.
+fn unsound(field: Field, sequential: u64) -> Charged<RecordFault>
+    ensures { result ≡ unsound field sequential }
+{
+    malformed(field.number(), field.column(), sequential)
+}
+
 // The fields of a record, or its first malformed field.
 fn read_fields(bytes: &[u8; RECORD]) -> Result<CallRecord, Charged<RecordFault>>
     ensures { result ≡ read_fields bytes.now }
 {
-    let sequential = read_sequential(&bytes[0..10]).ok_or(malformed(Field::Sequential, 0))?;
-    let unsound = |field| malformed(field, sequential);
+    let sequential = read_sequential(&bytes[0..10]).ok_or(unsound(Field::Sequential, 0))?;
+    let unsound = |field| unsound(field, sequential);
     let day = Day::read(&bytes[31..39]).ok_or(unsound(Field::Date))?;
     let time = TimeOfDay::read(&bytes[39..45]).ok_or(unsound(Field::Time))?;
     let duration = Duration::read(&bytes[65..72]).ok_or(unsound(Field::Duration))?;

@@ -94,7 +94,7 @@ verdict_rated m b bytes call rated e f =
 -- a counted fault has a number from 2 on
 record_counted : (f : RecordFault) → 2 ≤ record_number f
 record_counted (Length n) = omega arith
-record_counted (Malformed f) = omega arith
+record_counted (Malformed f c) = omega arith
 record_counted Category = omega arith
 record_counted Selection = omega arith
 record_counted Sliced = omega arith

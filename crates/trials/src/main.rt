@@ -45,18 +45,22 @@ const MONTHS: [&str; 8] = [
 ];
 
 fn show_fault(rt: &HostRuntime, fault: TakeFault) -> anyhow::Result<()> {
-    print!(rt; "refused {}", fault.number())?;
+    let number = fault.number();
+    let sequential = fault.sequential();
+    // One print for each line, since each print is a write of its own.
     match fault.place() {
-        None => {}
-        Some(Place::Length(length)) => print!(rt; ", length {length}")?,
-        Some(Place::Field(field)) => print!(rt; ", field {}", field.number())?,
-        Some(Place::Column(field)) => print!(rt;
-            ", field {}, column {}",
-            field.number(),
-            field.column()
+        None => println!(rt; "refused {number}, sequential {sequential}")?,
+        Some(Place::Length(length)) => println!(rt;
+            "refused {number}, length {length}, sequential {sequential}"
+        )?,
+        Some(Place::Field(field)) => println!(rt;
+            "refused {number}, field {}, sequential {sequential}",
+            field.number()
+        )?,
+        Some(Place::Column { field, column }) => println!(rt;
+            "refused {number}, field {field}, column {column}, sequential {sequential}"
         )?,
     }
-    println!(rt; ", sequential {}", fault.sequential())?;
     Ok(())
 }
 
