@@ -9,7 +9,8 @@ use crate::board::RefusalBoard;
 use ledger::day::{DayKey, DayRow};
 use ledger::line::{LineKey, LineRow};
 use ledger::store::RowStore;
-use values::terms::Basis;
+use values::calendar::Month;
+use values::terms::{Basis, Terms};
 
 impl<L: RowStore<Row = LineRow>, D: RowStore<Row = DayRow>> Statement<L, D> {
     pub fn basis(&self) -> Basis
@@ -17,6 +18,20 @@ impl<L: RowStore<Row = LineRow>, D: RowStore<Row = DayRow>> Statement<L, D> {
         ensures reference { result.reference ≡ (model L.RowStore D.RowStore self.now).reference }
     {
         self.basis
+    }
+
+    pub fn terms(&self) -> Terms
+        ensures { result ≡ (model L.RowStore D.RowStore self.now).terms }
+    {
+        let Basis { terms, .. } = self.basis;
+        terms
+    }
+
+    pub fn reference(&self) -> Month
+        ensures { result ≡ (model L.RowStore D.RowStore self.now).reference }
+    {
+        let Basis { reference, .. } = self.basis;
+        reference
     }
 
     // How many records were taken.
