@@ -2,6 +2,7 @@
 // (the reference month's line and our records) and, on standard input, the declared files, each followed by an empty line.
 #![tactic(auto)]
 
+ghost use Rattle.std.specs.Prelude.{◌≡◌};
 ghost use Rattle.ledger.specs.Ledger.{Kept as StoreKept};
 ghost use Rattle.ledger.specs.Rows.{line_keys, day_keys};
 
@@ -57,7 +58,9 @@ fn show_months<L: RowStore<Row = LineRow>, D: RowStore<Row = DayRow>>(
     rt: &HostRuntime,
     statement: &mut Statement<L, D>,
     bytes: &[u8],
-) -> anyhow::Result<()> {
+) -> anyhow::Result<()>
+    ensures { statement.new ≡ statement.old }
+{
     let Ok(file) = file::read(bytes) else {
         return Ok(());
     };
@@ -85,7 +88,9 @@ fn show<L: RowStore<Row = LineRow>, D: RowStore<Row = DayRow>>(
     statement: &mut Statement<L, D>,
     book: &FileBook,
     bytes: &[u8],
-) -> anyhow::Result<()> {
+) -> anyhow::Result<()>
+    ensures { statement.new ≡ statement.old }
+{
     let mut out = [b'-'; ROOM];
     match contest(statement, book, bytes, &mut out) {
         Ok(_) => {
