@@ -2,12 +2,12 @@
 // it prints the terms and the answers to a few questions, or the refusal.
 #![tactic(auto)]
 
-use probes::agreements;
+use probes::{agreements, pairs};
 use std::io::{BufRead, BufReader};
 
 fn main(rt: HostRuntime) -> anyhow::Result<()> {
     for line in BufReader::new(rt.alloc(), rt.stdin())?.lines(rt.alloc()) {
-        let bytes = hex::decode(rt.alloc(), line?)?;
+        let bytes = pairs::decode(rt.alloc(), line?.as_bytes())?;
         agreements::open(&rt, &bytes)?;
     }
     Ok(())

@@ -10,7 +10,7 @@ mod text;
 use anyhow::anyhow;
 use ledger::day::DayRow;
 use ledger::line::LineRow;
-use probes::agreements;
+use probes::{agreements, pairs};
 use std::io::{BufRead, BufReader};
 
 fn show(rt: &HostRuntime, format: &str, bytes: &mut [u8]) -> anyhow::Result<()> {
@@ -47,7 +47,7 @@ fn main(rt: HostRuntime) -> anyhow::Result<()> {
         else {
             return Err(anyhow!("a line has a format, a place and bytes"));
         };
-        let new = hex::decode(heap, text)?;
+        let new = pairs::decode(heap, text.as_bytes())?;
         if place == "=" {
             whole = new.to_vec(heap)?;
         }

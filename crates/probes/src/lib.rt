@@ -2,3 +2,4 @@
 #![tactic(auto)]
 
 pub mod agreements;
+pub mod pairs;
