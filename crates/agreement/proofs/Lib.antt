@@ -1,3 +1,4 @@
+pub mod ByteOrder
 pub mod FileLaws
 pub mod KeyLaws
 pub mod LabelLaws

@@ -24,18 +24,18 @@ agrees : (xs ys : List ℕ) → slice_partial_cmp (as_partial_cmp nat_cmp) xs ys
 agrees xs ys = lists_agrees (λ x y. refl) xs ys
 
 abbrev pub at_most : List ℕ → List ℕ → Bool
-at_most xs ys = is_some_and is_le (slice_partial_cmp (as_partial_cmp nat_cmp) xs ys)
+at_most xs ys = is_le (order xs ys)
 
-pub at_most_is : (xs ys : List ℕ) → at_most xs ys ≡ is_le (order xs ys)
+pub at_most_is : (xs ys : List ℕ) → is_some_and is_le (slice_partial_cmp (as_partial_cmp nat_cmp) xs ys) ≡ at_most xs ys
 at_most_is xs ys = ap (is_some_and is_le) (agrees xs ys)
 
+pub not_lower : (o : Ordering) → is_ge o ≡ not (is_lt o)
+not_lower Less = refl
+not_lower Equal = refl
+not_lower Greater = refl
+
 pub at_least_is : (xs ys : List ℕ) → is_some_and is_ge (slice_partial_cmp (as_partial_cmp nat_cmp) xs ys) ≡ not (is_lt (order xs ys))
-at_least_is xs ys = ap (is_some_and is_ge) (agrees xs ys) ∙ go (order xs ys)
-  where
-    go : (o : Ordering) → is_ge o ≡ not (is_lt o)
-    go Less = refl
-    go Equal = refl
-    go Greater = refl
+at_least_is xs ys = ap (is_some_and is_ge) (agrees xs ys) ∙ not_lower (order xs ys)
 
 pub equal_texts : (xs ys : List ℕ) → order xs ys ≡ Equal → xs ≡ ys
 equal_texts xs ys e = (bytes_eq-Decides xs ys).0 (sym (is_eq-slice_cmp xs ys) ∙ ap is_eq e)

@@ -202,7 +202,7 @@ module _ (rows : List (List ℕ)) (sound : is_sound Tariffs rows ≡ true) (long
         ap is_le (key_order i h ∙ then_equal _ _ (labelled i b.0)) ∙ nat_not_above _ _ b.1
 
     up_to_is : (row : List ℕ) → at_most (take 23 row) key ≡ is_le (order (take 23 row) key)
-    up_to_is row = at_most_is (take 23 row) key
+    up_to_is row = refl
 
     pub keys_parted : IsPartitionedBy (λ row. at_most (take 23 row) key) rows
     keys_parted i j x h l t =

@@ -45,8 +45,9 @@ pub fn find_tariff(
     ensures { result ≡ tariff_table rows.now point descriptor day }
 {
     let key = key_from(point, descriptor, day);
+    // By `cmp`, which passes equal bytes in groups, where `<=` goes through them one by one.
     let last = rows
-        .partition_point(|row| row[..23] <= key[..])
+        .partition_point(|row| row[..23].cmp(&key[..]).is_le())
         .checked_sub(1)?;
     let row = &rows[last];
     if row[..15] != key[..15] {

@@ -31,7 +31,7 @@ pub fn first_not_rising<const N: usize>(part: Part, rows: &[[u8; N]]) -> Option<
         |(row, next)|
             requires { (len ≤ N) × (N < 9223372036854775808) }
             ensures { result ≡ not (steps_up len (row.entry.now, next.entry.now)) }
-        { row[..len] >= next[..len] },
+        { row[..len].cmp(&next[..len]).is_ge() },
     )?;
     Some(i + 2)
 }
