@@ -132,14 +132,28 @@ fn show(rt: &HostRuntime, name: &str, whole: &Contents, other: &Contents) -> any
     Ok(())
 }
 
-// The last record first, in held tables.
-fn reversed(rt: &HostRuntime, input: Input<'_>) -> anyhow::Result<Contents> {
-    let records: Vec<&[u8]> = input.records.iter().rev().copied().collect(rt.alloc())?;
-    let input = Input {
-        records: &records,
-        ..input
-    };
-    dealt(rt, input, Pile::HeldTable, &[])
+// The last record first. The one list is walked from its end, since a second would take as much memory again.
+#[derive(Clone, Copy)]
+struct Reversed<'a> {
+    input: Input<'a>,
+}
+
+impl<'a> StoreUser for Reversed<'a> {
+    type Answer = Contents;
+
+    fn run<L: RowStore<Row = LineRow> + Drop, D: RowStore<Row = DayRow> + Drop>(
+        self,
+        rt: &HostRuntime,
+        lines: L,
+        days: D,
+    ) -> anyhow::Result<Contents> {
+        let input = self.input;
+        let mut statement = Statement::open(input.basis, lines, days);
+        for record in input.records.iter().rev() {
+            let _ = statement.take(&input.book, *record);
+        }
+        Contents::of(rt, &mut statement)
+    }
 }
 
 pub fn run(rt: &HostRuntime, input: Input<'_>) -> anyhow::Result<()> {
@@ -151,12 +165,8 @@ pub fn run(rt: &HostRuntime, input: Input<'_>) -> anyhow::Result<()> {
             "some records are refused for space, so order and dealing may change what is booked"
         )?;
     }
-    show(
-        rt,
-        "reversed, in held tables",
-        &whole,
-        &reversed(rt, input)?,
-    )?;
+    let reversed = over(rt, Pile::HeldTable, ROOM_FOR_500, Reversed { input })?;
+    show(rt, "reversed, in held tables", &whole, &reversed)?;
     let two = dealt(rt, input, Pile::Table, &[Pile::Image])?;
     show(
         rt,
