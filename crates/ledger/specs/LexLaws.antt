@@ -89,3 +89,15 @@ keys_lawful key figures apart = record {
   flipped = λ a b. lex_flipped (figures a) (figures b);
   transitive = λ a b c e f. lex_transitive (figures a) (figures b) (figures c) e f;
 }
+
+-- four comparisons in a row
+pub then_four : (a b c d : Ordering) → ordering_then (ordering_then (ordering_then a b) c) d ≡ ordering_then a (ordering_then b (ordering_then c (ordering_then d Equal)))
+then_four Less b c d = refl
+then_four Greater b c d = refl
+then_four Equal Less c d = refl
+then_four Equal Greater c d = refl
+then_four Equal Equal Less d = refl
+then_four Equal Equal Greater d = refl
+then_four Equal Equal Equal Less = refl
+then_four Equal Equal Equal Equal = refl
+then_four Equal Equal Equal Greater = refl
