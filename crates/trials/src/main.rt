@@ -100,8 +100,10 @@ fn spend<L: RowStore<Row = LineRow>, D: RowStore<Row = DayRow>>(
     statement: &mut Statement<L, D>,
     book: &FileBook,
 ) -> anyhow::Result<()> {
-    for _ in statement.taken()..MOST_TAKEN {
-        let _ = statement.take(book, &[]);
+    for _ in 0..MOST_TAKEN {
+        if statement.take(book, &[]) == Err(TakeFault::Spent) {
+            break;
+        }
     }
     let answer = statement.take(book, &[]);
     println!(rt; "{} records taken", statement.taken())?;
