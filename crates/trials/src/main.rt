@@ -100,6 +100,7 @@ fn spend<L: RowStore<Row = LineRow>, D: RowStore<Row = DayRow>>(
     statement: &mut Statement<L, D>,
     book: &FileBook,
 ) -> anyhow::Result<()> {
+    // No more than so many can be taken, and the loop has to end.
     for _ in 0..MOST_TAKEN {
         if statement.take(book, &[]) == Err(TakeFault::Spent) {
             break;
